@@ -1,5 +1,5 @@
 -- What the options of a call say.
-use Rattle.std.specs.Prelude.{◌≡◌, ◌≢◌, ◌<◌, ◌≤◌, ◌⊎◌, ◌==◌, ℕ, List, [], Option, None, option_map, if◌then◌else◌}
+use Rattle.std.specs.Prelude.{◌≡◌, ◌≢◌, ◌<◌, ◌≤◌, ◌⊎◌, ◌==◌, ℕ, List, [], Option, None, option_map, if◌then◌else◌, false}
 use Rattle.lin_names.specs.Spelled.{Spelled, seen}
 use Rattle.lin_objects.specs.declared.kinds.Kind.{Kind}
 use Rattle.lin_objects.specs.declared.kinds.Kind.TheVariants.{Register, CasRegister, Fifo, Set, Mutex, Bag}
@@ -42,5 +42,6 @@ NamesNone text = (text ≢ []) × (item_written text ≡ None)
 -- what is asked: about the object of the key that a text names, or the whole
 pub record IsQuestion (options : Options) (key : List ℕ) (question : Question) : Type 0 where
   pub asks : IsKeyText key (option_map seen question.key)
+  pub no_others : question.all_keys ≡ false
   pub order : question.with_order ≡ (options.order == 1)
   pub format : question.format ≡ format_of options

@@ -81,6 +81,7 @@ pub fn question_of(options: Options, key: &[u8]) -> Option<Question<'_>>
 {
     let question = Question {
         key: None,
+        all_keys: false,
         with_order: options.order == 1,
         format: format_of(options),
     };

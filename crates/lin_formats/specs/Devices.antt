@@ -1,5 +1,6 @@
 -- Readers and writers that count their failures.
-use Rattle.std.specs.Prelude.{◌≡◌, ℕ, ◌+◌, ◌-◌, ◌^◌, ◌==◌, ◌&&◌, nat_lt, min, Bool, true, false, List, length, Result, Ok, Err}
+use Rattle.std.specs.Prelude.{◌≡◌, ℕ, ◌+◌, ◌-◌, ◌^◌, ◌==◌, ◌&&◌, nat_lt, min, Bool, true, false, List, length, Option, Result, Ok, Err}
+use Rattle.lin_formats.specs.declared.verdicts.Refusal.{Refusal}
 use Rattle.lin_formats.specs.declared.counted.Counted.{Counted}
 
 -- the reader or writer inside
@@ -13,6 +14,10 @@ failures_of c = c.failures
 -- whether the history that was read from it last was whole and had no event
 abbrev pub is_empty_of : {T : Type 0} → Counted T → Bool
 is_empty_of c = c.is_empty
+
+-- why what was read from it last is refused, if it is
+abbrev pub refused_of : {T : Type 0} → Counted T → Option Refusal
+refused_of c = c.refused
 
 -- a write fails by an error, or where it takes none of some bytes
 abbrev pub takes_nothing : {E : Type 0} → List ℕ → Result ℕ E → Bool

@@ -1,23 +1,25 @@
 //! Readers and writers that count their failures, and readers that have given a history of no event.
-ghost use Rattle.std.specs.Prelude.{◌≡◌, ◌+◌, false, min, is_err};
+ghost use Rattle.std.specs.Prelude.{◌≡◌, ◌+◌, None, false, min, is_err};
 ghost use Rattle.std.specs.Io.{ReadsAtMost, WritesAtMost};
 ghost use Rattle.std.specs.Io.KnownBytes.{Keeps, ReadConsumes, WriteAppends};
 
 use crate::inputs::History;
+use crate::verdicts::Refusal;
 use std::io;
 use std::io::{Read, Write};
 
 /// A reader or a writer that counts its failures: errors of the device, and writes of some bytes that take none. Of a reader it is kept in
-/// mind whether it gave a whole history of no event.
+/// mind whether it gave a whole history of no event, and why it was refused last.
 #[derive(Drop)]
 pub struct Counted<T> {
     inner: T,
     failures: u64,
     is_empty: bool,
+    refused: Option<Refusal>,
 }
 
 impl<T> Counted<T> {
-    ghost use Rattle.lin_formats.specs.Devices.{device_of, failures_of, is_empty_of};
+    ghost use Rattle.lin_formats.specs.Devices.{device_of, failures_of, is_empty_of, refused_of};
     ghost use Rattle.lin_formats.specs.Histories.{says_nothing};
 
     /// The device, with no failure so far.
@@ -25,11 +27,13 @@ impl<T> Counted<T> {
         ensures device { device_of result ≡ inner }
         ensures none { failures_of result ≡ 0 }
         ensures unread { is_empty_of result ≡ false }
+        ensures unrefused { refused_of result ≡ None }
     {
         Counted {
             inner,
             failures: 0,
             is_empty: false,
+            refused: None,
         }
     }
 
@@ -38,6 +42,20 @@ impl<T> Counted<T> {
         ensures { result ≡ is_empty_of self.now }
     {
         self.is_empty
+    }
+
+    /// Why what was read from it last is refused, if it is.
+    pub fn refused(&self) -> Option<Refusal>
+        ensures { result ≡ refused_of self.now }
+    {
+        self.refused
+    }
+
+    /// Keeps in mind why what was read from it last is refused, if it is.
+    pub fn keep_refusal(&mut self, refused: Option<Refusal>)
+        ensures { self.new ≡ record self.old { refused = refused } }
+    {
+        self.refused = refused;
     }
 
     /// Keeps in mind whether this history, which was read from it, is whole and has no event.

@@ -76,6 +76,14 @@ budget_rule = record (new_rule (codes "budget")) { value_names = 1; long = Some 
 abbrev pub least_rule : Rule
 least_rule = record (new_rule (codes "at-least")) { value_names = 1; long = Some (codes "at-least"); action = Some Set; parser = Some (Unsigned 1 1000000) }
 
+-- the option that names how many operations are drawn at most
+abbrev pub last_rule : Rule
+last_rule = record (new_rule (codes "last")) { value_names = 1; long = Some (codes "last"); action = Some Set; parser = Some (Unsigned 1 1000) }
+
+-- the flag that asks for each object that isn't a yes
+abbrev pub all_keys_rule : Rule
+all_keys_rule = record (new_rule (codes "all-keys")) { long = Some (codes "all-keys"); action = Some SetTrue }
+
 abbrev pub key_rule : Rule
 key_rule = record (new_rule (codes "key")) { value_names = 1; long = Some (codes "key"); action = Some Set }
 
@@ -98,10 +106,11 @@ abbrev pub check_app : Parsers → App
 check_app parsers = with_report_options parsers.kinds (with_rule (with_rule (new_app (codes "check")) files_rule) (format_rule parsers.formats))
 
 abbrev pub explain_app : Parsers → App
-explain_app parsers = with_report_options parsers.kinds (with_rule (with_rule (with_rule (with_rule (new_app (codes "explain")) file_rule) key_rule) order_flag_rule) (format_rule parsers.formats))
+explain_app parsers = with_report_options parsers.kinds
+    (with_rule (with_rule (with_rule (with_rule (with_rule (new_app (codes "explain")) file_rule) key_rule) all_keys_rule) order_flag_rule) (format_rule parsers.formats))
 
 abbrev pub draw_app : ValueParser → App
-draw_app parser = with_report_options parser (with_rule (with_rule (new_app (codes "draw")) file_rule) key_rule)
+draw_app parser = with_report_options parser (with_rule (with_rule (with_rule (new_app (codes "draw")) file_rule) key_rule) last_rule)
 
 abbrev pub verify_app : ValueParser → App
 verify_app parser = with_options parser (with_rule (with_rule (new_app (codes "verify")) files_rule) order_file_rule)
@@ -127,6 +136,11 @@ is_given (Some word) = bytes_eq word (codes "true")
 abbrev pub IsLeast : Option Text → ℕ → Type 0
 IsLeast None n = n ≡ 0
 IsLeast (Some text) n = SpellsCount text n
+
+-- the number that the text spells, if there is one
+abbrev pub GivesLast : List Row → Option ℕ → Type 0
+GivesLast rows None = first_of (codes "last") rows ≡ None
+GivesLast rows (Some n) = (text : Text) × (first_of (codes "last") rows ≡ Some text) × SpellsCount text n
 
 -- the settings are what the matches say: a kind, whether values are keyed, a budget, and how many events are wanted at least
 abbrev pub HasSettings : List Row → Settings → Type 0
@@ -175,15 +189,17 @@ SayOrder words _ _ files = ⊥
 abbrev pub AreFiles : List Row → List Text → Type 0
 AreFiles rows files = (0 < length files) × (names_input_twice rows ≡ false)
 
--- The line is what a command and its matches say: `check` with files and a way of printing; `explain` with a file, a key or none, whether an
--- order is wanted, and a way of printing; `draw` with a file and a key or none; `verify` with files and an order; or `edit`, with a file or
--- none; each with its settings.
+-- The line is what a command and its matches say: `check` with files and a way of printing; `explain` with a file, a key or none, whether all
+-- keys and whether an order is wanted, and a way of printing; `draw` with a file, a key or none, and how many operations are drawn, if that is
+-- said; `verify` with files and an order; or `edit`, with a file or none; each with its settings.
 abbrev pub Says : Text × List Row → Line → Type 0
 Says found (Check settings format files) =
     (found.0 ≡ codes "check") × (map (λ name. name.now) files.items ≡ texts_of (codes "file") found.1) × AreFiles found.1 (texts_of (codes "file") found.1) × GivesFormat found.1 format × HasSettings found.1 settings
-Says found (Explain settings key with_order format file) =
-    (found.0 ≡ codes "explain") × GivesText found.1 (codes "file") (Some file.now) × GivesKey found.1 key × (with_order ≡ is_given (first_of (codes "order") found.1)) × GivesFormat found.1 format × HasSettings found.1 settings
-Says found (Draw settings key file) = (found.0 ≡ codes "draw") × GivesText found.1 (codes "file") (Some file.now) × GivesKey found.1 key × HasSettings found.1 settings
+Says found (Explain settings key all_keys with_order format file) =
+    (found.0 ≡ codes "explain") × GivesText found.1 (codes "file") (Some file.now) × GivesKey found.1 key × (all_keys ≡ is_given (first_of (codes "all-keys") found.1))
+    × (with_order ≡ is_given (first_of (codes "order") found.1)) × GivesFormat found.1 format × HasSettings found.1 settings
+Says found (Draw settings key last file) =
+    (found.0 ≡ codes "draw") × GivesText found.1 (codes "file") (Some file.now) × GivesKey found.1 key × GivesLast found.1 last × HasSettings found.1 settings
 Says found (Verify settings order files) =
     (found.0 ≡ codes "verify") × SayOrder (texts_of (codes "file") found.1) (first_of (codes "order-file") found.1) order (map (λ name. name.now) files.items)
     × AreFiles found.1 (map (λ name. name.now) files.items) × HasSettings found.1 settings

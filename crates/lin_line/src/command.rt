@@ -3,7 +3,7 @@ ghost use Rattle.std.specs.Prelude.{◌≡◌, Some, IfOk, map, true, false};
 ghost use Rattle.clap.specs.Words.{app_of, kind_of, rule_of};
 ghost use Rattle.clap.specs.declared.builder.value_parser.ValueParser.TheVariants.{Names};
 ghost use Rattle.clap.specs.declared.builder.command.Command.TheViews.{out-Command as fields_of};
-ghost use Rattle.lin_line.specs.CommandLine.{budget_rule, check_app, draw_app, edit_app, explain_app, file_rule, files_rule, format_rule, key_rule, keyed_rule, kind_rule, least_rule, optional_file_rule, order_file_rule, order_flag_rule, program_app, refusal_kind, verify_app, with_options as options_of, with_report_options as report_options_of, AreParsers, Parsers};
+ghost use Rattle.lin_line.specs.CommandLine.{all_keys_rule, budget_rule, check_app, draw_app, edit_app, explain_app, file_rule, files_rule, format_rule, key_rule, keyed_rule, kind_rule, last_rule, least_rule, optional_file_rule, order_file_rule, order_flag_rule, program_app, refusal_kind, verify_app, with_options as options_of, with_report_options as report_options_of, AreParsers, Parsers};
 ghost use Rattle.lin_line.specs.CommandLine as said;
 
 use crate::misuse::NoLine;
@@ -15,6 +15,9 @@ use std::alloc::{AllocError, Global};
 
 /// The greatest number of events of a file.
 const MOST_EVENTS: u64 = 1_000_000;
+
+/// The greatest number of operations of a picture.
+const MOST_DRAWN: u64 = 1_000;
 
 /// The words for the ways in which an answer is printed.
 const FORMATS: [&str; 2] = ["text", "json"];
@@ -132,6 +135,28 @@ fn key_option<'a>(alloc: Global) -> Arg<'a>
         .action(ArgAction::Set)
 }
 
+fn last_option<'a>(alloc: Global) -> Arg<'a>
+    ensures rule { rule_of result ≡ last_rule }
+    ensures local { (result.required ≡ false) × (result.global ≡ false) }
+{
+    Arg::new(alloc, "last")
+        .long("last")
+        .value_name("N")
+        .help("Draw up to N operations, 1 to 1000, however wide that is")
+        .action(ArgAction::Set)
+        .value_parser(ValueParser::unsigned(1, MOST_DRAWN))
+}
+
+fn all_keys_flag<'a>(alloc: Global) -> Arg<'a>
+    ensures rule { rule_of result ≡ all_keys_rule }
+    ensures local { (result.required ≡ false) × (result.global ≡ false) }
+{
+    Arg::new(alloc, "all-keys")
+        .long("all-keys")
+        .help("Explain each object that isn't a yes")
+        .action(ArgAction::SetTrue)
+}
+
 fn order_flag<'a>(alloc: Global) -> Arg<'a>
     ensures rule { rule_of result ≡ order_flag_rule }
     ensures local { (result.required ≡ false) × (result.global ≡ false) }
@@ -215,6 +240,7 @@ fn explain_command<'a>(
         .after_help("Example: lincheck explain --keyed --key 3 history.edn")
         .arg(file_argument(alloc))?
         .arg(key_option(alloc))?
+        .arg(all_keys_flag(alloc))?
         .arg(order_flag(alloc))?
         .arg(format_option(alloc, formats))?;
     with_report_options(alloc, kinds, command)
@@ -228,7 +254,8 @@ fn draw_command<'a>(alloc: Global, kinds: &'a [&'a str]) -> Result<Command<'a>, 
         .about("Prints a picture of the history in FILE, as SVG")
         .after_help("Example: lincheck draw --keyed --key 3 history.edn > history.svg")
         .arg(file_argument(alloc))?
-        .arg(key_option(alloc))?;
+        .arg(key_option(alloc))?
+        .arg(last_option(alloc))?;
     with_report_options(alloc, kinds, command)
 }
 

@@ -4,7 +4,7 @@ ghost use Rattle.clap.specs.Words.{first_of, found_of, rows_of};
 ghost use Rattle.lin_texts.specs.Orders.{order_written};
 ghost use Rattle.lin_line.specs.declared.words.Line.TheVariants as LineOf;
 ghost use Rattle.lin_line.specs.declared.words.Order.TheVariants as OrderOf;
-ghost use Rattle.lin_line.specs.CommandLine.{is_given as given, EndInOrder, GivesKey, HasSettings, IsLeast, IsUnsaid, LacksKey, LacksSettings, SpellsCount, Says, texts_of};
+ghost use Rattle.lin_line.specs.CommandLine.{is_given as given, EndInOrder, GivesKey, GivesLast, HasSettings, IsLeast, IsUnsaid, LacksKey, LacksSettings, SpellsCount, Says, texts_of};
 ghost use Rattle.lin_line.specs.CommandLine as said;
 
 use crate::misuse::NoLine;
@@ -74,6 +74,19 @@ fn least_of<'a>(matches: &ArgMatches<'a>) -> Option<u32>
     match text_of(matches, "at-least") {
         Some(text) => count_of(text),
         None => Some(0),
+    }
+}
+
+/// How many operations are drawn at most, if that is said; none where `clap` found no number.
+fn last_of<'a>(matches: &ArgMatches<'a>) -> Option<Option<u32>>
+    ensures { IfSome result (GivesLast (rows_of (found_of matches.now))) }
+{
+    match text_of(matches, "last") {
+        Some(text) => match count_of(text) {
+            Some(count) => Some(Some(count)),
+            None => None,
+        },
+        None => Some(None),
     }
 }
 
@@ -224,6 +237,7 @@ fn explain_line<'a>(settings: Settings, matches: &ArgMatches<'a>) -> Result<Line
     Ok(Line::Explain {
         settings,
         key,
+        all_keys: is_given(text_of(matches, "all-keys")),
         with_order: is_given(text_of(matches, "order")),
         format,
         file,
@@ -237,12 +251,13 @@ fn draw_line<'a>(settings: Settings, matches: &ArgMatches<'a>) -> Result<Line<'a
     ensures unsaid { IfErr result (IsUnsaid (codes "draw", rows_of (found_of matches.now))) }
 {
     let key = key_of(matches)?;
-    let Some(file) = text_of(matches, "file") else {
+    let (Some(last), Some(file)) = (last_of(matches), text_of(matches, "file")) else {
         return Err(NoLine::Unsaid);
     };
     Ok(Line::Draw {
         settings,
         key,
+        last,
         file,
     })
 }

@@ -39,6 +39,8 @@ pub enum Line<'a> {
         settings: Settings,
         /// The object that is asked about, if not the whole.
         key: Option<Said<'a>>,
+        /// Whether each object that isn't a yes is asked about, where no key is.
+        all_keys: bool,
         /// Whether a yes ends with a legal order.
         with_order: bool,
         /// How the explanation is printed.
@@ -52,6 +54,8 @@ pub enum Line<'a> {
         settings: Settings,
         /// The object that is drawn, if not the whole.
         key: Option<Said<'a>>,
+        /// How many operations are drawn at most, however wide they are, if that is said.
+        last: Option<u32>,
         /// The file's name.
         file: &'a str,
     },

@@ -17,7 +17,8 @@ use Rattle.lin_line.specs.declared.words.Order.{Order}
 use Rattle.lin_line.specs.declared.words.Order.TheVariants.{Given, InFile}
 use Rattle.lin_program.specs.Exit.{SystemWords, exit_status}
 use Rattle.lin_program.specs.Reporting.{AreAmong, AreReported, Holds, IsNotOpened, stopped}
-use Rattle.lin_program.specs.Tasks.{HasBudget, report_format}
+use Rattle.lin_report.specs.declared.formats.Format.TheVariants.{Text}
+use Rattle.lin_program.specs.Tasks.{HasBudget, format_among, heading_in, report_format}
 use Rattle.lin_program.specs.declared.endings.Stop.{Stop}
 use Rattle.lin_program.specs.declared.endings.Stop.TheVariants.{NotOpened, Fault}
 use Rattle.lin_program.specs.declared.system.Message.{Message}
@@ -26,16 +27,16 @@ use Rattle.lin_program.specs.declared.system.Message.TheVariants as message
 -- a run can be made with the line's settings
 abbrev pub IsRunnable : Line → Type 0
 IsRunnable (Check settings format files) = HasBudget settings
-IsRunnable (Explain settings key with_order format file) = HasBudget settings
-IsRunnable (Draw settings key file) = HasBudget settings
+IsRunnable (Explain settings key all_keys with_order format file) = HasBudget settings
+IsRunnable (Draw settings key last file) = HasBudget settings
 IsRunnable (Verify settings order files) = HasBudget settings
 IsRunnable (Edit settings file) = HasBudget settings
 
 -- the files that a line has reported on, of which each should have an event
 abbrev pub reported_files : Line → List (List ℕ)
 reported_files (Check settings format files) = map (λ n. n.now) files.items
-reported_files (Explain settings key with_order format file) = file.now ∷ []
-reported_files (Draw settings key file) = file.now ∷ []
+reported_files (Explain settings key all_keys with_order format file) = file.now ∷ []
+reported_files (Draw settings key last file) = file.now ∷ []
 reported_files (Verify settings order files) = []
 reported_files (Edit settings file) = []
 
@@ -44,6 +45,18 @@ pub data AreTold {S F C O : Type 0} (system : SystemWords S F C O) (old : S) : L
   nothing : AreTold system old [] old
   one_more : {names : List (Bor (List ℕ))} {now : S} → AreTold system old names now → (path : Bor (List ℕ)) (told : Bool) (new : S) →
       system.tells now (message.NothingRead path) told new → AreTold system old (names ++ path ∷ []) new
+
+-- the file that the line's commands pull from, if it names one
+abbrev pub pulled_from : Line → Option (List ℕ)
+pulled_from (Edit settings file) = option_map (λ n. n.now) file
+pulled_from (Check settings format files) = None
+pulled_from (Explain settings key all_keys with_order format file) = None
+pulled_from (Draw settings key last file) = None
+pulled_from (Verify settings order files) = None
+
+-- nothing was told; or of the file of this name that it is refused, or that couldn't be told
+abbrev pub MayTellRefused : {S F C O : Type 0} → SystemWords S F C O → S → Option (List ℕ) → S → Type 0
+MayTellRefused system old name new = (new ≡ old) ⊎ ((path : Bor (List ℕ)) × (words : Bor (List ℕ)) × (name ≡ Some path.now) × ((told : Bool) × system.tells old (message.Refused path words) told new))
 
 -- the text ends with this byte
 abbrev pub EndsIn : ℕ → List ℕ → Type 0
@@ -80,12 +93,12 @@ module _ {S F C O : Type 0} (system : SystemWords S F C O) (held : F → Option 
   abbrev pub IsVerifiedFrom : Settings → List ℕ → List (List ℕ) → Result Status Stop → Type 0
   IsVerifiedFrom settings name files outcome =
       ((text : List ℕ) × IsReadIn system held commanded now name text × ((order : List ℕ) × IsWithoutLineEnd text order
-      × AreReported system held commanded now written (IsVerifyRun settings order) files outcome))
+      × AreReported system held commanded now written (λ several. IsVerifyRun settings order) (λ several. heading_in Text) files outcome))
       ⊎ ((stop : Stop) × (outcome ≡ Err stop) × IsUnreadIn system held commanded now name stop)
 
   -- the order, which is said or in a file, is judged of the files of these names
   abbrev pub IsVerifiedBy : Settings → Order → List (List ℕ) → Result Status Stop → Type 0
-  IsVerifiedBy settings (Given text) files outcome = AreReported system held commanded now written (IsVerifyRun settings text.now) files outcome
+  IsVerifiedBy settings (Given text) files outcome = AreReported system held commanded now written (λ several. IsVerifyRun settings text.now) (λ several. heading_in Text) files outcome
   IsVerifiedBy settings (InFile name) files outcome = IsVerifiedFrom settings name.now files outcome
 
   -- the commands of standard input are carried out over the file of a name, which is opened whatever the name, or over nothing
@@ -97,10 +110,13 @@ module _ {S F C O : Type 0} (system : SystemWords S F C O) (held : F → Option 
 
   -- What the line says is done, with its settings: each of the files is reported on; `edit` reads commands from standard input.
   abbrev pub IsOutcomeOf : Line → Result Status Stop → Type 0
-  IsOutcomeOf (Check settings format files) outcome = AreReported system held commanded now written (IsCheckRun settings (report_format format)) (map (λ n. n.now) files.items) outcome
-  IsOutcomeOf (Explain settings key with_order format file) outcome =
-      AreReported system held commanded now written (IsExplainRun settings (record { key = key; with_order = with_order; format = report_format format })) (file.now ∷ []) outcome
-  IsOutcomeOf (Draw settings key file) outcome = AreReported system held commanded now written (IsDrawRun settings key) (file.now ∷ []) outcome
+  IsOutcomeOf (Check settings format files) outcome =
+      AreReported system held commanded now written (λ several. IsCheckRun settings (format_among several (report_format format)))
+      (λ several. heading_in (format_among several (report_format format))) (map (λ n. n.now) files.items) outcome
+  IsOutcomeOf (Explain settings key all_keys with_order format file) outcome =
+      AreReported system held commanded now written (λ several. IsExplainRun settings (record { key = key; all_keys = all_keys; with_order = with_order; format = report_format format }))
+      (λ several. heading_in Text) (file.now ∷ []) outcome
+  IsOutcomeOf (Draw settings key last file) outcome = AreReported system held commanded now written (λ several. IsDrawRun settings key) (λ several. heading_in Text) (file.now ∷ []) outcome
   IsOutcomeOf (Verify settings order files) outcome = IsVerifiedBy settings order (map (λ n. n.now) files.items) outcome
   IsOutcomeOf (Edit settings file) outcome = IsEditedIn settings (option_map (λ n. n.now) file) outcome
 
@@ -121,9 +137,10 @@ module _ {S F C O : Type 0} (system : SystemWords S F C O) (old new : S) where
   EndsBy (Err (NotOpened path)) status = IsTold (TellsOfFile path.now) × (status ≡ 6)
   EndsBy (Err (Fault fault)) status = IsTold (λ m. m ≡ message.Fault fault) × (status ≡ exit_status (Err fault))
 
--- The program ends so on a line: what the line says is done with the old system; of some of its files it may be told that no event was read;
--- and it ends by the outcome.
+-- The program ends so on a line: what the line says is done with the old system; of some of its files it may be told that no event was read, and of
+-- the one that commands pull from that it is refused; and it ends by the outcome.
 abbrev pub Ends : {S F C O : Type 0} → SystemWords S F C O → S → S → (F → Option (List ℕ)) → (C → Option (List ℕ)) → (O → Option (List ℕ)) → Line → ℕ → Type 0
 Ends {S} system old new held commanded written line status =
     (outcome : Result Status Stop) × IsOutcomeOf system held commanded written old line outcome
-    × (names : List (Bor (List ℕ))) × AreAmong (reported_files line) names × (told : S) × AreTold system old names told × EndsBy system told new outcome status
+    × (names : List (Bor (List ℕ))) × AreAmong (reported_files line) names × (told : S) × AreTold system old names told
+    × (noted : S) × MayTellRefused system told (pulled_from line) noted × EndsBy system noted new outcome status

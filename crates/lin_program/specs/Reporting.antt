@@ -11,17 +11,13 @@ use Rattle.lin_program.specs.Tasks.{Running}
 use Rattle.lin_program.specs.declared.endings.Stop.{Stop}
 use Rattle.lin_program.specs.declared.endings.Stop.TheVariants.{NotOpened, Fault}
 
--- the line that names a file
-abbrev pub heading : List ℕ → List ℕ
-heading name = codes "file " ++ name ++ codes "\n"
-
--- A run over a file that holds this at first, behind a line with its name where it is one of several: the line is written, and then what the
--- run writes; or the line couldn't be written whole, and there was no run.
+-- A run over a file that holds this at first, behind what names it where it is one of several: that is written, and then what the run writes; or it
+-- couldn't be written whole, and there was no run.
 abbrev pub IsRunBehind : Running → Bool → List ℕ → Option (List ℕ) → Option (List ℕ) → Option (List ℕ) → Result Status RunFault → Type 0
-IsRunBehind running false name file before after outcome = (left : Option (List ℕ)) × running file left before after outcome
-IsRunBehind running true name file before after outcome =
-    ((left : Option (List ℕ)) × (behind : Option (List ℕ)) × Appends before behind (heading name) × running file left behind after outcome)
-    ⊎ ((outcome ≡ Err WriteFailed) × ((n : ℕ) × Appends before after (take n (heading name))))
+IsRunBehind running false heading file before after outcome = (left : Option (List ℕ)) × running file left before after outcome
+IsRunBehind running true heading file before after outcome =
+    ((left : Option (List ℕ)) × (behind : Option (List ℕ)) × Appends before behind heading × running file left behind after outcome)
+    ⊎ ((outcome ≡ Err WriteFailed) × ((n : ℕ) × Appends before after (take n heading)))
     ⊎ ((outcome ≡ Err OutOfMemory) × Keeps before after)
 
 -- the outcome of runs that a fault of one run stops
@@ -72,13 +68,16 @@ module _ {S F C O : Type 0} (system : SystemWords S F C O) (held : F → Option 
   abbrev pub IsNotOpened : List ℕ → Stop → Type 0
   IsNotOpened name stop = (path : Bor (List ℕ)) × (stop ≡ NotOpened path) × (path.now ≡ name) × (is_input name ≡ false) × system.lacks now name
 
-  -- the file of a name is reported on, behind a line with its name where it is one of several; or it can't be opened, and nothing is written
-  abbrev pub IsReportOn : Running → Bool → Reporting
-  IsReportOn running is_named name before after outcome =
-      ((file : Option (List ℕ)) × Holds name file × (run : Result Status RunFault) × IsRunBehind running is_named name file before after run × (outcome ≡ stopped run))
+  -- the file of a name is reported on, behind what names it where it is one of several; or it can't be opened, and nothing is written
+  abbrev pub IsReportOn : Running → (List ℕ → List ℕ) → Bool → Reporting
+  IsReportOn running heading is_named name before after outcome =
+      ((file : Option (List ℕ)) × Holds name file × (run : Result Status RunFault) × IsRunBehind running is_named (heading name) file before after run × (outcome ≡ stopped run))
       ⊎ ((stop : Stop) × (outcome ≡ Err stop) × IsNotOpened name stop × (after ≡ before))
 
-  -- the files of these names are reported on, each behind a line with its name where there are several; a function gives what the output holds
-  abbrev pub AreReported : (O → Option (List ℕ)) → Running → List (List ℕ) → Result Status Stop → Type 0
-  AreReported written running names outcome =
-      (out : O) × system.writes now out × AreReportedFrom (IsReportOn running (nat_lt 1 (length names))) (written out) names outcome
+  -- the files of these names are reported on, which are several or not; then each is behind what names it. A function gives what the output holds
+  abbrev pub AreReportedAs : (O → Option (List ℕ)) → (Bool → Running) → (Bool → List ℕ → List ℕ) → Bool → List (List ℕ) → Result Status Stop → Type 0
+  AreReportedAs written running heading several names outcome =
+      (out : O) × system.writes now out × AreReportedFrom (IsReportOn (running several) (heading several) several) (written out) names outcome
+
+  abbrev pub AreReported : (O → Option (List ℕ)) → (Bool → Running) → (Bool → List ℕ → List ℕ) → List (List ℕ) → Result Status Stop → Type 0
+  AreReported written running heading names outcome = AreReportedAs written running heading (nat_lt 1 (length names)) names outcome

@@ -1,5 +1,6 @@
 -- What is done with one file.
-use Rattle.std.specs.Prelude.{◌≤◌, ℕ, List, Option, Result}
+use Rattle.std.specs.Prelude.{◌≤◌, ◌++◌, ℕ, Bool, true, false, List, Option, Result, codes}
+use Rattle.lin_json.specs.Answers.{file_front}
 use Rattle.lin_report.specs.Explanations.{IsExplainRun}
 use Rattle.lin_report.specs.Pictures.{IsDrawRun}
 use Rattle.lin_report.specs.Reports.{IsCheckRun}
@@ -18,6 +19,19 @@ abbrev pub report_format : Format → ReportFormat
 report_format Text = report.Text
 report_format Json = report.Json
 
+-- one of several reports follows what names its file
+abbrev pub format_among : Bool → ReportFormat → ReportFormat
+format_among several report.Text = report.Text
+format_among false report.Json = report.Json
+format_among true report.Json = report.Rest
+format_among several report.Rest = report.Rest
+
+-- what names a file: a line, or the beginning of a map
+abbrev pub heading_in : ReportFormat → List ℕ → List ℕ
+heading_in report.Text name = codes "file " ++ name ++ codes "\n"
+heading_in report.Json name = codes "file " ++ name ++ codes "\n"
+heading_in report.Rest name = file_front name
+
 -- a run can be made with this budget
 abbrev pub HasBudget : Settings → Type 0
 HasBudget settings = (1 ≤ settings.budget) × (settings.budget ≤ 1000000)
@@ -25,7 +39,7 @@ HasBudget settings = (1 ≤ settings.budget) × (settings.budget ≤ 1000000)
 abbrev pub settings_of : Task → Settings
 settings_of (Check settings format) = settings
 settings_of (Explain settings question) = settings
-settings_of (Draw settings key) = settings
+settings_of (Draw settings key last) = settings
 settings_of (Verify settings order) = settings
 
 -- What a run over one file is: what is left of the file goes from the first to the second, what is written from the third to the fourth, and
@@ -37,5 +51,19 @@ Running = Option (List ℕ) → Option (List ℕ) → Option (List ℕ) → Opti
 abbrev pub IsTaskRun : Task → Running
 IsTaskRun (Check settings format) old new before after outcome = IsCheckRun settings format old new before after outcome
 IsTaskRun (Explain settings question) old new before after outcome = IsExplainRun settings question old new before after outcome
-IsTaskRun (Draw settings key) old new before after outcome = IsDrawRun settings key old new before after outcome
+IsTaskRun (Draw settings key last) old new before after outcome = IsDrawRun settings key old new before after outcome
 IsTaskRun (Verify settings order) old new before after outcome = IsVerifyRun settings order.now old new before after outcome
+
+-- what is done with a file that is one of several, or not
+abbrev pub task_among : Bool → Task → Task
+task_among several (Check settings format) = Check settings (format_among several format)
+task_among several (Explain settings question) = Explain settings question
+task_among several (Draw settings key last) = Draw settings key last
+task_among several (Verify settings order) = Verify settings order
+
+-- what names a file in front of it
+abbrev pub heading_of : Task → List ℕ → List ℕ
+heading_of (Check settings format) name = heading_in format name
+heading_of (Explain settings question) name = heading_in report.Text name
+heading_of (Draw settings key last) name = heading_in report.Text name
+heading_of (Verify settings order) name = heading_in report.Text name

@@ -3,7 +3,7 @@
 
 ghost use Rattle.std.specs.Prelude.{◌≡◌, [], map, option_map};
 ghost use Rattle.std.specs.IoError.{error_kind};
-ghost use Rattle.lin_program.specs.Endings.{AreTold, Ends, EndsBy, IsEdited, IsEditedIn, IsOutcomeOf, IsRunnable, IsVerifiedBy, IsVerifiedFrom, reported_files};
+ghost use Rattle.lin_program.specs.Endings.{AreTold, Ends, EndsBy, IsEdited, IsEditedIn, IsOutcomeOf, IsRunnable, IsVerifiedBy, IsVerifiedFrom, MayTellRefused, pulled_from, reported_files};
 ghost use Rattle.lin_program.specs.Program.{EndsOnWords, EndsWithoutWords};
 ghost use Rattle.lin_program.specs.Reporting.{AreAmong};
 ghost use Rattle.lin_program.specs.Tasks.{HasBudget};
@@ -17,16 +17,25 @@ mod tasks;
 use clap::error::ErrorKind;
 use endings::{FAILED, LINE_REFUSED, Stop, stopped};
 pub use endings::{exit_of, exit_of_refusal};
-use lin_formats::{Counted, RunFault, Settings, Status};
+use lin_formats::{Counted, Refusal, RunFault, Settings, Status, refusal_words};
 use lin_line::{Line, Order, line};
 use lin_report::{Question, run as edit};
 use orders::{bytes_in, without_line_end};
 use reporting::report_all;
-use std::alloc::Global;
+use std::alloc::{AllocError, Global};
 use std::io;
 use std::io::Read;
 pub use system::{Message, System};
 use tasks::{Task, report_format};
+
+/// What is to be told of a line's files, beside what is found.
+#[derive(Drop)]
+struct Notes<'a> {
+    /// The names of those from which no event was read, though one is looked for there.
+    empty: Vec<&'a str>,
+    /// Why the file that commands pull from was refused last.
+    refused: Option<Refusal>,
+}
 
 /// Decides of each of the files whether the order that another file holds is a legal order of its history.
 fn verify_from<'a, S: System>(
@@ -65,23 +74,27 @@ fn verify_all<'a, S: System>(
     }
 }
 
-/// Carries out the commands of standard input, over a file that is open.
+/// Carries out the commands of standard input, over a file that is open. Why that was refused last goes to `refused`.
 fn edit_on<S: System, R: Read + Drop>(
     alloc: Global,
     system: &S,
     settings: Settings,
     file: R,
+    refused: &mut Option<Refusal>,
 ) -> Result<Status, RunFault>
     requires { HasBudget settings }
     ensures { IsEdited S.words S.Commands.remaining S.Out.contents system.now settings (R.remaining file) result }
 {
-    edit(
+    let mut file = Counted::new(file);
+    let outcome = edit(
         alloc,
         settings,
-        &mut Counted::new(file),
+        &mut file,
         &mut Counted::new(system.commands()),
         &mut Counted::new(system.out()),
-    )
+    );
+    *refused = file.refused();
+    outcome
 }
 
 /// Carries out the commands of standard input, over the file of this name, or over nothing.
@@ -90,30 +103,31 @@ fn edit_named<'a, S: System>(
     system: &S,
     settings: Settings,
     name: Option<&'a str>,
+    refused: &mut Option<Refusal>,
 ) -> Result<Status, Stop<'a>>
     requires { HasBudget settings }
     ensures { IsEditedIn S.words S.File.remaining S.Commands.remaining S.Out.contents system.now settings (option_map (λ n. n.now) name.entry) result }
 {
     let Some(name) = name else {
-        return stopped(edit_on(alloc, system, settings, b"".as_slice()));
+        return stopped(edit_on(alloc, system, settings, b"".as_slice(), refused));
     };
     match system.open(name) {
-        Some(file) => stopped(edit_on(alloc, system, settings, file)),
+        Some(file) => stopped(edit_on(alloc, system, settings, file, refused)),
         None => Err(Stop::NotOpened(name)),
     }
 }
 
-/// Does what the line says. The names of the files from which no event was read, though one is looked for there, are put into `empty`.
+/// Does what the line says. What is to be told of its files besides goes to `notes`.
 fn carry_out<'a, S: System>(
     alloc: Global,
     system: &S,
     line: &Line<'a>,
-    empty: &mut Vec<&'a str>,
+    notes: &mut Notes<'a>,
 ) -> Result<Status, Stop<'a>>
     requires runs { IsRunnable line.now }
-    requires none { empty.old.items ≡ [] }
+    requires none { notes.old.empty.items ≡ [] }
     ensures outcome { IsOutcomeOf S.words S.File.remaining S.Commands.remaining S.Out.contents system.now line.now result }
-    ensures named { AreAmong (reported_files line.now) empty.new.items }
+    ensures named { AreAmong (reported_files line.now) notes.new.empty.items }
 {
     match line {
         Line::Check {
@@ -122,37 +136,42 @@ fn carry_out<'a, S: System>(
             files,
         } => {
             let task = Task::Check(*settings, report_format(*format));
-            report_all(alloc, system, task, files.as_slice(), empty)
+            report_all(alloc, system, task, files.as_slice(), &mut notes.empty)
         }
         Line::Explain {
             settings,
             key,
+            all_keys,
             with_order,
             format,
             file,
         } => {
             let question = Question {
                 key: *key,
+                all_keys: *all_keys,
                 with_order: *with_order,
                 format: report_format(*format),
             };
             let task = Task::Explain(*settings, question);
-            report_all(alloc, system, task, &[*file], empty)
+            report_all(alloc, system, task, &[*file], &mut notes.empty)
         }
         Line::Draw {
             settings,
             key,
+            last,
             file,
         } => {
-            let task = Task::Draw(*settings, *key);
-            report_all(alloc, system, task, &[*file], empty)
+            let task = Task::Draw(*settings, *key, *last);
+            report_all(alloc, system, task, &[*file], &mut notes.empty)
         }
         Line::Verify {
             settings,
             order,
             files,
         } => verify_all(alloc, system, *settings, *order, files.as_slice()),
-        Line::Edit { settings, file } => edit_named(alloc, system, *settings, *file),
+        Line::Edit { settings, file } => {
+            edit_named(alloc, system, *settings, *file, &mut notes.refused)
+        }
     }
 }
 
@@ -163,6 +182,35 @@ fn tell_empty<S: System>(system: &mut S, names: &[&str])
     for name in names {
         let _is_told = system.tell(&Message::NothingRead(*name));
     }
+}
+
+/// The file that commands pull from, if the line names one.
+fn pulled_file<'a>(line: &Line<'a>) -> Option<&'a str>
+    ensures { option_map (λ n. n.now) result ≡ pulled_from line.now }
+{
+    match line {
+        Line::Edit { file, .. } => *file,
+        _ => None,
+    }
+}
+
+/// Tells of the file that commands pull from why it is refused, if it is.
+fn tell_refused<S: System>(
+    alloc: Global,
+    system: &mut S,
+    name: Option<&str>,
+    refused: Option<Refusal>,
+) -> Result<(), AllocError>
+    ensures { MayTellRefused S.words system.old (option_map (λ n. n.now) name.entry) system.new }
+{
+    let (Some(name), Some(refusal)) = (name, refused) else {
+        return Ok(());
+    };
+    let words = refusal_words(alloc, refusal)?;
+    if let Ok(words) = std::str::from_utf8(&words) {
+        let _is_told = system.tell(&Message::Refused(name, words));
+    }
+    Ok(())
 }
 
 /// Tells why a run ended early, if it did, and gives the exit status.
@@ -182,14 +230,20 @@ fn end<S: System>(system: &mut S, outcome: Result<Status, Stop>) -> u8
     }
 }
 
-/// Does what the line says, tells from which files no event was read, and why that ended early, if it did, and gives the exit status.
+/// Does what the line says, tells from which files no event was read, why the file of `edit` is refused, if it is, and why that ended early, if it
+/// did, and gives the exit status.
 fn run_line<S: System>(alloc: Global, system: &mut S, line: Line) -> u8
     requires { IsRunnable line }
     ensures { Ends S.words system.old system.new S.File.remaining S.Commands.remaining S.Out.contents line.entry result }
 {
-    let mut empty = Vec::new(alloc);
-    let outcome = carry_out(alloc, &*system, &line, &mut empty);
-    tell_empty(system, empty.as_slice());
+    let mut notes = Notes {
+        empty: Vec::new(alloc),
+        refused: None,
+    };
+    let outcome = carry_out(alloc, &*system, &line, &mut notes);
+    tell_empty(system, notes.empty.as_slice());
+    // (where there is no memory for the words, they aren't told)
+    let _is_told = tell_refused(alloc, system, pulled_file(&line), notes.refused).is_ok();
     end(system, outcome)
 }
 

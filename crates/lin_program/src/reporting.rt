@@ -2,8 +2,8 @@
 ghost use Rattle.std.specs.Prelude.{◌≡◌, ◌⊎◌, ◌++◌, ◌∷◌, [], IfErr, OnOk, Err, ℕ, take, map};
 ghost use Rattle.std.specs.Io.KnownBytes.{Appends, Keeps};
 ghost use Rattle.lin_formats.specs.Devices.{device_of, failures_of};
-ghost use Rattle.lin_program.specs.Tasks.{HasBudget, IsTaskRun, settings_of};
-ghost use Rattle.lin_program.specs.Reporting.{heading, AreAmong, AreReported, IsReportOn, IsRunBehind};
+ghost use Rattle.lin_program.specs.Tasks.{HasBudget, IsTaskRun, heading_of, settings_of, task_among};
+ghost use Rattle.lin_program.specs.Reporting.{AreAmong, AreReported, IsReportOn, IsRunBehind};
 
 use crate::endings::{Stop, stopped, worse};
 use crate::system::System;
@@ -12,22 +12,26 @@ use lin_formats::{Counted, RunFault, Status, write_whole};
 use std::alloc::Global;
 use std::io::{Read, Write};
 
-/// Writes the line that names a file.
-fn write_name<W: Write>(alloc: Global, name: &str, out: &mut Counted<W>) -> Result<(), RunFault>
+/// Writes what names a file, in front of what the task writes of it.
+fn write_name<W: Write>(
+    alloc: Global,
+    task: &Task,
+    name: &str,
+    out: &mut Counted<W>,
+) -> Result<(), RunFault>
     requires { failures_of out.old ≡ 0 }
-    ensures whole { OnOk result (Appends (W.contents (device_of out.old)) (W.contents (device_of out.new)) (heading name.now)) }
-    ensures beginning { result ≡ Err RunFault.WriteFailed → (n : ℕ) × Appends (W.contents (device_of out.old)) (W.contents (device_of out.new)) (take n (heading name.now)) }
+    ensures whole { OnOk result (Appends (W.contents (device_of out.old)) (W.contents (device_of out.new)) (heading_of task.now name.now)) }
+    ensures beginning { result ≡ Err RunFault.WriteFailed → (n : ℕ) × Appends (W.contents (device_of out.old)) (W.contents (device_of out.new)) (take n (heading_of task.now name.now)) }
     ensures nothing { result ≡ Err RunFault.OutOfMemory → Keeps (W.contents (device_of out.old)) (W.contents (device_of out.new)) }
     ensures counts { OnOk result (failures_of out.new ≡ 0) }
     ensures faults { IfErr result (λ fault. (fault ≡ RunFault.WriteFailed) ⊎ (fault ≡ RunFault.OutOfMemory)) }
 {
-    let mut line = Vec::from_slice(alloc, b"file ")?;
-    line.extend_from_slice(name.as_bytes())?;
-    line.push(b'\n')?;
-    write_whole(out, line.as_slice())
+    let mut heading = Vec::new(alloc);
+    task.put_heading(&mut heading, name)?;
+    write_whole(out, heading.as_slice())
 }
 
-/// Reports on a file that is open, behind a line with its name where it is one of several. Whether it is a whole history of no event goes to
+/// Reports on a file that is open, behind what names it where it is one of several. Whether it is a whole history of no event goes to
 /// `is_empty`, where the report comes as far.
 fn report_on<R: Read + Drop, W: Write>(
     alloc: Global,
@@ -40,11 +44,11 @@ fn report_on<R: Read + Drop, W: Write>(
 ) -> Result<Status, RunFault>
     requires budget { HasBudget (settings_of task) }
     requires writes { failures_of out.old ≡ 0 }
-    ensures ran { IsRunBehind (IsTaskRun task.entry) is_named name.now (R.remaining file) (W.contents (device_of out.old)) (W.contents (device_of out.new)) result }
+    ensures ran { IsRunBehind (IsTaskRun task.entry) is_named (heading_of task.entry name.now) (R.remaining file) (W.contents (device_of out.old)) (W.contents (device_of out.new)) result }
     ensures counts { OnOk result (failures_of out.new ≡ 0) }
 {
     if is_named {
-        write_name(alloc, name, out)?;
+        write_name(alloc, &task, name, out)?;
     }
     let mut file = Counted::new(file);
     let outcome = task.run(alloc, &mut file, out);
@@ -65,7 +69,7 @@ fn report<'a, S: System>(
 ) -> Result<Status, Stop<'a>>
     requires budget { HasBudget (settings_of task) }
     requires writes { failures_of out.old ≡ 0 }
-    ensures ran { IsReportOn S.words S.File.remaining S.Commands.remaining system.now (IsTaskRun task.entry) is_named name.now
+    ensures ran { IsReportOn S.words S.File.remaining S.Commands.remaining system.now (IsTaskRun task.entry) (heading_of task.entry) is_named name.now
         (S.Out.contents (device_of out.old)) (S.Out.contents (device_of out.new)) result }
     ensures counts { OnOk result (failures_of out.new ≡ 0) }
 {
@@ -99,7 +103,8 @@ pub fn report_all<'a, S: System>(
 ) -> Result<Status, Stop<'a>>
     requires budget { HasBudget (settings_of task) }
     requires none { empty.old.items ≡ [] }
-    ensures reported { AreReported S.words S.File.remaining S.Commands.remaining system.now S.Out.contents (IsTaskRun task.entry) (map (λ n. n.now) names.now) result }
+    ensures reported { AreReported S.words S.File.remaining S.Commands.remaining system.now S.Out.contents (λ several. IsTaskRun (task_among several task.entry))
+        (λ several. heading_of (task_among several task.entry)) (map (λ n. n.now) names.now) result }
     ensures named { AreAmong (map (λ n. n.now) names.now) empty.new.items }
 {
     let mut out = Counted::new(system.out());
@@ -107,6 +112,7 @@ pub fn report_all<'a, S: System>(
     let mut worst = Status::Yes;
     for name in names {
         let mut is_empty = false;
+        let task = task.among(is_named);
         let status = report(alloc, system, task, name, is_named, &mut out, &mut is_empty)?;
         worst = worse(worst, status);
         keep_if(is_empty, name, empty);

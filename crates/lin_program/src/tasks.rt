@@ -1,14 +1,15 @@
 //! What is done with one file.
-ghost use Rattle.std.specs.Prelude.{◌≡◌, ◌<◌};
+ghost use Rattle.std.specs.Prelude.{◌≡◌, ◌<◌, ◌++◌, OnOk};
 ghost use Rattle.lin_formats.specs.Devices.{device_of, failures_of, Counts};
 ghost use Rattle.lin_formats.specs.Verdicts.{is_write_failed};
-ghost use Rattle.lin_program.specs.Tasks.{HasBudget, IsTaskRun, report_format as format_of, settings_of};
+ghost use Rattle.lin_program.specs.Tasks.{HasBudget, IsTaskRun, format_among, heading_in, heading_of, report_format as format_of, settings_of, task_among};
 
 use lin_formats::{Counted, RunFault, Settings, Status, verify};
+use lin_json::put_file_front;
 use lin_line::Format;
 use lin_names::Said;
 use lin_report::{Question, check, draw, explain};
-use std::alloc::Global;
+use std::alloc::{AllocError, Global};
 use std::io::{Read, Write};
 
 /// What is done with one file.
@@ -18,13 +19,33 @@ pub enum Task<'a> {
     Check(Settings, lin_report::Format),
     /// It is told why the answer is what it is.
     Explain(Settings, Question<'a>),
-    /// The history is drawn, or the object of this key.
-    Draw(Settings, Option<Said<'a>>),
+    /// The history is drawn, or the object of this key: up to so many operations, if that is said.
+    Draw(Settings, Option<Said<'a>>, Option<u32>),
     /// It is decided whether the order that this text writes is a legal order of the history.
     Verify(Settings, &'a [u8]),
 }
 
 impl<'a> Task<'a> {
+    /// The same with a file that is one of several, or not.
+    pub fn among(self, several: bool) -> Task<'a>
+        ensures { result ≡ task_among several self.entry }
+    {
+        match self {
+            Task::Check(settings, format) => Task::Check(settings, among(several, format)),
+            _ => self,
+        }
+    }
+
+    /// Puts last what names a file in front of what is written of it.
+    pub fn put_heading(&self, text: &mut Vec<u8>, name: &str) -> Result<(), AllocError>
+        ensures { OnOk result (text.new.items ≡ text.old.items ++ heading_of self.now name.now) }
+    {
+        match self {
+            Task::Check(_, format) => put_heading_in(text, *format, name),
+            _ => put_heading_in(text, lin_report::Format::Text, name),
+        }
+    }
+
     /// Does it with a file that is open, and writes what it finds.
     ///
     /// Asks that the budget is one with which such a run can be made, and that no count of failures is at its greatest.
@@ -44,10 +65,37 @@ impl<'a> Task<'a> {
         match self {
             Task::Check(settings, format) => check(alloc, settings, format, file, out),
             Task::Explain(settings, question) => explain(alloc, settings, question, file, out),
-            Task::Draw(settings, key) => draw(alloc, settings, key, file, out),
+            Task::Draw(settings, key, last) => draw(alloc, settings, key, last, file, out),
             Task::Verify(settings, order) => verify(alloc, settings, file, order, out),
         }
     }
+}
+
+/// One of several reports follows what names its file.
+fn among(several: bool, format: lin_report::Format) -> lin_report::Format
+    ensures { result ≡ format_among several format }
+{
+    match (several, format) {
+        (true, lin_report::Format::Json) => lin_report::Format::Rest,
+        _ => format,
+    }
+}
+
+/// Puts last what names a file: a line, or the beginning of a map.
+fn put_heading_in(
+    text: &mut Vec<u8>,
+    format: lin_report::Format,
+    name: &str,
+) -> Result<(), AllocError>
+    ensures { OnOk result (text.new.items ≡ text.old.items ++ heading_in format name.now) }
+{
+    if let lin_report::Format::Rest = format {
+        return put_file_front(text, name.as_bytes());
+    }
+    text.extend_from_slice(b"file ")?;
+    text.extend_from_slice(name.as_bytes())?;
+    text.push(b'\n')?;
+    Ok(())
 }
 
 /// The way of printing that a command line names.

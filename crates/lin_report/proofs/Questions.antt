@@ -75,14 +75,14 @@ question_still scope more old mid new asked still = record {
 }
 
 -- the passes of an answer, and those beside it
-passes_few : (answer : Answer) (count before mid after : ℕ) → mid ≤ before + beside_passes answer * count → after ≤ mid + most_passes answer * count → after ≤ before + 12 * count
+passes_few : (answer : Answer) (count before mid after : ℕ) → mid ≤ before + beside_passes answer * count → after ≤ mid + most_passes answer * count → after ≤ before + 13 * count
 passes_few (IllFormed at cause) count before mid after one two = omega (arith, one, two)
 passes_few (Yes order) count before mid after one two = omega (arith, one, two)
 passes_few (No n) count before mid after one two = omega (arith, one, two)
 passes_few (Undecided at) count before mid after one two = omega (arith, one, two)
 
 -- what is told beside the answer takes no more than all may
-beside_few : (answer : Answer) (a b : Standing) → IsStill (beside_passes answer * length a.present.history) a b → IsStill (12 * length a.present.history) a b
+beside_few : (answer : Answer) (a b : Standing) → IsStill (beside_passes answer * length a.present.history) a b → IsStill (13 * length a.present.history) a b
 beside_few answer a b still = record {
   present = still.present;
   low = still.low;
@@ -93,7 +93,7 @@ beside_few answer a b still = record {
 
 -- and then an explanation of it
 told_few : (answer : Answer) (a b c : Standing) → IsStill (beside_passes answer * length a.present.history) a b → c ≡ record b { meter = c.meter }
-    → c.meter.steps ≤ b.meter.steps + most_passes answer * length b.present.history → c.meter.scans ≡ b.meter.scans → IsStill (12 * length a.present.history) a c
+    → c.meter.steps ≤ b.meter.steps + most_passes answer * length b.present.history → c.meter.scans ≡ b.meter.scans → IsStill (13 * length a.present.history) a c
 told_few answer a b c still is few scans = record {
   present = ap (λ (s : Standing). s.present) is ∙ still.present;
   low = ap (λ (s : Standing). s.low) is ∙ still.low;
@@ -105,14 +105,14 @@ told_few answer a b c still is few scans = record {
 
 -- a question, and what is told beside its answer
 pub question_beside : (scope : Scope) (answer : Answer) (old mid new : Standing) → IsQuestion scope 0 old mid → mid.present ≡ old.present
-    → IsStill (beside_passes answer * length mid.present.history) mid new → IsQuestion scope (12 * length old.present.history) old new
+    → IsStill (beside_passes answer * length mid.present.history) mid new → IsQuestion scope (13 * length old.present.history) old new
 question_beside scope answer old mid new asked same still =
-    subst (λ (now : Present). IsQuestion scope (12 * length now.history) old new) same (question_still scope (12 * length mid.present.history) old mid new asked (beside_few answer mid new still))
+    subst (λ (now : Present). IsQuestion scope (13 * length now.history) old new) same (question_still scope (13 * length mid.present.history) old mid new asked (beside_few answer mid new still))
 
 -- and an explanation of it
 pub question_told : (scope : Scope) (answer : Answer) (old mid next new : Standing) → IsQuestion scope 0 old mid → mid.present ≡ old.present
     → IsStill (beside_passes answer * length mid.present.history) mid next → new ≡ record next { meter = new.meter }
-    → new.meter.steps ≤ next.meter.steps + most_passes answer * length next.present.history → new.meter.scans ≡ next.meter.scans → IsQuestion scope (12 * length old.present.history) old new
+    → new.meter.steps ≤ next.meter.steps + most_passes answer * length next.present.history → new.meter.scans ≡ next.meter.scans → IsQuestion scope (13 * length old.present.history) old new
 question_told scope answer old mid next new asked same still is few scans =
-    subst (λ (now : Present). IsQuestion scope (12 * length now.history) old new) same
-    (question_still scope (12 * length mid.present.history) old mid new asked (told_few answer mid next new still is few scans))
+    subst (λ (now : Present). IsQuestion scope (13 * length now.history) old new) same
+    (question_still scope (13 * length mid.present.history) old mid new asked (told_few answer mid next new still is few scans))

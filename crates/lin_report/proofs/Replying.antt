@@ -58,10 +58,15 @@ done_by keyed Work before now new text status same reply = (new, subst (λ p. Is
 done_by keyed Pull before now new text status same reply = elim reply [ ]
 
 -- a line of which so much is held, read by these names, which are more than those before
+-- what is read of so much of a line is what the line says
+pub says : (keyed : Bool) (held line : List ℕ) → held ≡ take (longest_line + 1) line → (names : List (List ℕ)) (said : Result (Option Command) CommandFault)
+    → (said ≡ Err OutOfMemory → ⊥) → IsReadBy keyed names held said → IsCommandBy keyed names line said
+says keyed held line is names said none read = λ m by. kept_says m line held said is (read_right m held said none (read m by))
+
 module _ (keyed : Bool) (held line : List ℕ) (is : held ≡ take (longest_line + 1) line) (before : RunState) (old names : List (List ℕ)) (now : Present) (follow : Followed) (left : Option (List ℕ))
     (stands : StandsAt keyed before now old follow left) (more : AreMore old names) where
   said_by : (said : Result (Option Command) CommandFault) → (said ≡ Err OutOfMemory → ⊥) → IsReadBy keyed names held said → IsCommandBy keyed names line said
-  said_by said none read = λ m by. kept_says m line held said is (read_right m held said none (read m by))
+  said_by = says keyed held line is names
 
   grown : AreMore before.names names
   grown = subst (λ n. AreMore n names) stands.names_are more

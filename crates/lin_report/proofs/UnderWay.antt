@@ -9,7 +9,7 @@ use Rattle.std.proofs.lemmas.List.Elements.{All-append}
 use Rattle.lin_history.specs.Sees.{Followed}
 use Rattle.lin_names.specs.Names.{AreEachOnce}
 use Rattle.lin_report.specs.inner.Engines.{Holds, IsCarriedOut, IsCutOff, IsCutShort, IsFinished, IsUnderWay, ReadsPart}
-use Rattle.lin_report.specs.Runs.{AreCarriedOut, AreRead, IsDone, IsReply, AreReplies, IsEditRun, IsSaidDone, IsWritten, RunState, lines_of, start_of}
+use Rattle.lin_report.specs.Runs.{AreCarriedOut, AreRead, IsDone, IsReply, AreReplies, IsEditRun, IsLeftFor, IsSaidDone, IsWritten, RunState, SaysPull, lines_of, start_of}
 use Rattle.lin_report.specs.Runs.AreReplies.{one_more}
 use Rattle.lin_formats.specs.Intakes.{AreSeen}
 use Rattle.lin_formats.specs.Verdicts.{IsReadTooFar}
@@ -64,11 +64,11 @@ keeps_itself (Some bytes) = refl
 
 -- nothing is written where the writer didn't fail
 pub cut_unwritten : (keyed : Bool) (names names' : List (List ℕ)) (follow : Followed) (file file' out : Option (List ℕ)) (before : RunState) (line : List ℕ) (fault : RunFault)
-    → (fault ≡ WriteFailed → ⊥) → ReadsPart names names' follow file file' (fault ≡ TooMuch) → IsCutShort keyed names names' follow file file' out out before line fault
-cut_unwritten keyed names names' follow file file' out before line ReadFailed other reads = (reads, keeps_itself out)
-cut_unwritten keyed names names' follow file file' out before line WriteFailed other reads = absurd (other refl)
-cut_unwritten keyed names names' follow file file' out before line OutOfMemory other reads = (reads, keeps_itself out)
-cut_unwritten keyed names names' follow file file' out before line TooMuch other reads = (reads, keeps_itself out)
+    → (fault ≡ WriteFailed → ⊥) → (fault ≡ ReadFailed → SaysPull keyed line) → ReadsPart names names' follow file file' (fault ≡ TooMuch) → IsCutShort keyed names names' follow file file' out out before line fault
+cut_unwritten keyed names names' follow file file' out before line ReadFailed other pulls reads = (reads, keeps_itself out, pulls)
+cut_unwritten keyed names names' follow file file' out before line WriteFailed other pulls reads = absurd (other refl)
+cut_unwritten keyed names names' follow file file' out before line OutOfMemory other pulls reads = (reads, keeps_itself out, pulls)
+cut_unwritten keyed names names' follow file file' out before line TooMuch other pulls reads = (reads, keeps_itself out, pulls)
 
 module _ (keyed : Bool) (start : RunState) (before : Option (List ℕ)) where
   -- some bytes of a line are held
@@ -160,22 +160,24 @@ module _ (keyed : Bool) (start : RunState) (before : Option (List ℕ)) where
 
   -- the lines before the one that is held are whole
   begun : (engine : Engine) (left after cleft : Option (List ℕ)) (bytes others : List ℕ) (so_far : IsUnderWay keyed start before engine left after bytes)
-      → AreRead (bytes ++ others) cleft so_far.lines
-  begun engine left after cleft bytes others so_far =
+      → (fault : RunFault) → IsLeftFor keyed fault (so_far.rest ++ others) → AreRead keyed fault (bytes ++ others) cleft so_far.lines
+  begun engine left after cleft bytes others so_far fault leaves =
       inl (
         so_far.rest ++ others,
         λ more. ap lines_of (append_assoc bytes others more) ∙ so_far.begins (others ++ more)
             ∙ ap (λ r. so_far.lines ++ lines_of r) (sym (append_assoc so_far.rest others more)),
+        leaves,
       )
 
   -- and that one is, where it ended
   begun_with : (engine : Engine) (left after cleft : Option (List ℕ)) (bytes others : List ℕ) (so_far : IsUnderWay keyed start before engine left after bytes)
-      → AreRead (bytes ++ 10 ∷ others) cleft (so_far.lines ++ so_far.rest ∷ [])
+      → AreRead keyed WriteFailed (bytes ++ 10 ∷ others) cleft (so_far.lines ++ so_far.rest ∷ [])
   begun_with engine left after cleft bytes others so_far =
       inl (
         others,
         λ more. ap lines_of (append_assoc bytes (10 ∷ others) more) ∙ so_far.begins (10 ∷ (others ++ more))
             ∙ ap (λ ls. so_far.lines ++ ls) (line_ends so_far.rest (others ++ more) so_far.unended) ∙ sym (append_assoc so_far.lines (so_far.rest ∷ []) (lines_of (others ++ more))),
+        tt,
       )
 
   -- a fault came at the line that was held, or at the one behind it
@@ -183,11 +185,11 @@ module _ (keyed : Bool) (start : RunState) (before : Option (List ℕ)) where
       → (fault : RunFault) → IsCutShort keyed engine.names names engine.follow left left' after after' so_far.state so_far.rest fault
       → IsCutOff keyed start before left' after' cleft (bytes ++ 10 ∷ others) fault
   cut_within engine names left left' after after' cleft bytes others so_far ReadFailed cut =
-      ((so_far.lines, begun engine left after cleft bytes (10 ∷ others) so_far, lines_before engine names left left' after after' bytes _ so_far cut.0 cut.1), too_far engine names left left' after bytes _ so_far cut.0)
+      ((so_far.lines, begun engine left after cleft bytes (10 ∷ others) so_far ReadFailed (inr (record { line = so_far.rest; behind = others; stands = refl; unended = so_far.unended; says = cut.2 refl })), lines_before engine names left left' after after' bytes _ so_far cut.0 cut.1), too_far engine names left left' after bytes _ so_far cut.0)
   cut_within engine names left left' after after' cleft bytes others so_far OutOfMemory cut =
-      ((so_far.lines, begun engine left after cleft bytes (10 ∷ others) so_far, lines_before engine names left left' after after' bytes _ so_far cut.0 cut.1), too_far engine names left left' after bytes _ so_far cut.0)
+      ((so_far.lines, begun engine left after cleft bytes (10 ∷ others) so_far OutOfMemory tt, lines_before engine names left left' after after' bytes _ so_far cut.0 cut.1), too_far engine names left left' after bytes _ so_far cut.0)
   cut_within engine names left left' after after' cleft bytes others so_far TooMuch cut =
-      ((so_far.lines, begun engine left after cleft bytes (10 ∷ others) so_far, lines_before engine names left left' after after' bytes _ so_far cut.0 cut.1), too_far engine names left left' after bytes _ so_far cut.0)
+      ((so_far.lines, begun engine left after cleft bytes (10 ∷ others) so_far TooMuch tt, lines_before engine names left left' after after' bytes _ so_far cut.0 cut.1), too_far engine names left left' after bytes _ so_far cut.0)
   cut_within engine names left left' after after' cleft bytes others so_far WriteFailed cut =
       ((so_far.lines ++ so_far.rest ∷ [], begun_with engine left after cleft bytes others so_far, lines_with engine names left left' after after' bytes so_far cut), λ e. absurd (other_fault e))
 
@@ -197,7 +199,7 @@ module _ (keyed : Bool) (start : RunState) (before : Option (List ℕ)) where
   cut_holding engine left after cleft bytes others so_far = (
     (
       so_far.lines,
-      begun engine left after cleft bytes others so_far,
+      begun engine left after cleft bytes others so_far OutOfMemory tt,
       (so_far.state, so_far.text, engine.status, so_far.run, ([], subst (λ l. Consumes l left []) so_far.stands.left_is (Consumes-nil left)), so_far.written),
     ),
     λ e. absurd (no_such e),
@@ -250,20 +252,33 @@ module _ (keyed : Bool) (start : RunState) (before : Option (List ℕ)) where
       → 0 < length so_far.rest → IsAtEnd behind → (fault : RunFault) → IsCutShort keyed engine.names names engine.follow left left' after after' so_far.state so_far.rest fault
       → IsCutOff keyed start before left' after' behind bytes fault
   cut_at_end engine names left left' after after' behind bytes so_far some end ReadFailed cut =
-      ((so_far.lines, inl (so_far.rest, so_far.begins), lines_before engine names left left' after after' bytes _ so_far cut.0 cut.1), too_far engine names left left' after bytes _ so_far cut.0)
+      ((so_far.lines, inl (so_far.rest, so_far.begins, inl so_far.unended), lines_before engine names left left' after after' bytes _ so_far cut.0 cut.1), too_far engine names left left' after bytes _ so_far cut.0)
   cut_at_end engine names left left' after after' behind bytes so_far some end OutOfMemory cut =
-      ((so_far.lines, inl (so_far.rest, so_far.begins), lines_before engine names left left' after after' bytes _ so_far cut.0 cut.1), too_far engine names left left' after bytes _ so_far cut.0)
+      ((so_far.lines, inl (so_far.rest, so_far.begins, tt), lines_before engine names left left' after after' bytes _ so_far cut.0 cut.1), too_far engine names left left' after bytes _ so_far cut.0)
   cut_at_end engine names left left' after after' behind bytes so_far some end TooMuch cut =
-      ((so_far.lines, inl (so_far.rest, so_far.begins), lines_before engine names left left' after after' bytes _ so_far cut.0 cut.1), too_far engine names left left' after bytes _ so_far cut.0)
+      ((so_far.lines, inl (so_far.rest, so_far.begins, tt), lines_before engine names left left' after after' bytes _ so_far cut.0 cut.1), too_far engine names left left' after bytes _ so_far cut.0)
   cut_at_end engine names left left' after after' behind bytes so_far some end WriteFailed cut =
       ((so_far.lines ++ so_far.rest ∷ [], inr (end, with_last engine left after bytes so_far some), lines_with engine names left left' after after' bytes so_far cut), λ e. absurd (other_fault e))
 
-  -- the run stops behind the bytes
+  -- nothing more comes
+  unended_with_none : (rest : List ℕ) → All (λ c. c ≢ 10) rest → All (λ c. c ≢ 10) (rest ++ [])
+  unended_with_none rest none = subst (All (λ c. c ≢ 10)) (sym (append-nil rest)) none
+
+  -- the reader of commands failed behind the bytes
+  pub unread_further : (engine : Engine) (left after behind : Option (List ℕ)) (bytes : List ℕ) → IsUnderWay keyed start before engine left after bytes
+      → (lines : List (List ℕ)) × AreRead keyed ReadFailed (bytes ++ []) behind lines × AreCarriedOut keyed start lines left (Appends before after)
+  unread_further engine left after behind bytes so_far = (
+    so_far.lines,
+    begun engine left after behind bytes [] so_far ReadFailed (inl (unended_with_none so_far.rest so_far.unended)),
+    (so_far.state, so_far.text, engine.status, so_far.run, ([], subst (λ l. Consumes l left []) so_far.stands.left_is (Consumes-nil left)), so_far.written),
+  )
+
+  -- the bytes are too many
   pub stopped : (engine : Engine) (left after behind : Option (List ℕ)) (bytes others : List ℕ) → IsUnderWay keyed start before engine left after bytes
-      → (lines : List (List ℕ)) × AreRead (bytes ++ others) behind lines × AreCarriedOut keyed start lines left (Appends before after)
+      → (lines : List (List ℕ)) × AreRead keyed TooMuch (bytes ++ others) behind lines × AreCarriedOut keyed start lines left (Appends before after)
   stopped engine left after behind bytes others so_far = (
     so_far.lines,
-    begun engine left after behind bytes others so_far,
+    begun engine left after behind bytes others so_far TooMuch tt,
     (so_far.state, so_far.text, engine.status, so_far.run, ([], subst (λ l. Consumes l left []) so_far.stands.left_is (Consumes-nil left)), so_far.written),
   )
 

@@ -1,5 +1,5 @@
 -- What is right to tell of why an answer is what it is.
-use Rattle.std.specs.Prelude.{◌≡◌, ◌-◌, ◌++◌, ◌⊎◌, ℕ, Bool, false, List, [], Option, Some, None, Result, codes, count_by, decimal, length, nat_eq, option_map, take}
+use Rattle.std.specs.Prelude.{◌≡◌, ◌≢◌, ◌-◌, ◌++◌, ◌∷◌, ◌⊎◌, ℕ, Bool, true, false, List, [], Option, Some, None, Result, codes, count_by, decimal, drop, length, nat_eq, option_map, take}
 use Rattle.std.specs.Io.KnownBytes.{IsAtEnd}
 use Rattle.lin_events.specs.declared.events.Event.{Event}
 use Rattle.lin_events.specs.declared.items.Item.{Item}
@@ -14,7 +14,7 @@ use Rattle.lin_answers.specs.declared.answers.Answer.{Answer}
 use Rattle.lin_answers.specs.declared.answers.Answer.TheVariants as answers
 use Rattle.lin_answers.specs.declared.answers.Scope.{Scope}
 use Rattle.lin_answers.specs.declared.answers.Verdict.{Verdict}
-use Rattle.lin_answers.specs.declared.answers.Verdict.TheVariants.{No, Undecided}
+use Rattle.lin_answers.specs.declared.answers.Verdict.TheVariants.{IllFormed, Yes, No, Undecided}
 use Rattle.lin_answers.specs.declared.answers.Scope.TheVariants.{Object, Whole}
 use Rattle.lin_formats.specs.VerdictTexts.{refusal_text}
 use Rattle.lin_formats.specs.Histories.{StopsFor}
@@ -34,13 +34,14 @@ use Rattle.lin_explain.specs.declared.parts.Parts.{Parts}
 use Rattle.lin_explain.specs.declared.telling.Asked.{Asked}
 use Rattle.lin_json.specs.Explanations.{explanation_json, refusal_json}
 use Rattle.lin_report.specs.Failing.{first_failing}
-use Rattle.lin_report.specs.Reports.{AreFindings, IsPrintRun, answer_status, answer_text, opened, told_text}
+use Rattle.lin_report.specs.Reports.{AreFindings, HasFound, IsPrintRun, answer_status, answer_text, opened, told_text}
 use Rattle.lin_report.specs.declared.beside.Beside.{Beside}
 use Rattle.lin_report.specs.declared.explaining.Question.{Question}
 use Rattle.lin_report.specs.declared.failing.Failing.{Failing}
 use Rattle.lin_report.specs.declared.findings.Finding.{Finding}
+use Rattle.lin_report.specs.declared.findings.Findings.{Findings}
 use Rattle.lin_report.specs.declared.formats.Format.{Format}
-use Rattle.lin_report.specs.declared.formats.Format.TheVariants.{Text, Json}
+use Rattle.lin_report.specs.declared.formats.Format.TheVariants.{Text, Json, Rest}
 
 -- without the byte that ends the last line
 abbrev pub without_end : List ℕ → List ℕ
@@ -89,12 +90,16 @@ module _ (names : List (List ℕ)) where
   abbrev pub whole_text : Verdict → List ℕ → Option Beside → List ℕ
   whole_text verdict lines beside = told_text verdict lines ++ beside_text beside
 
+  abbrev pub json_line : ℕ → Verdict → List ℕ → Parts → Option Beside → List ℕ
+  json_line events verdict lines parts beside =
+      explanation_json names (answer_status verdict) (answer_text verdict) events parts (beside_map events beside) (without_end (whole_text verdict lines beside)) ++ codes "\n"
+
   -- An explanation: the answer's line, those that explain it, and those of an object that fails beside it; or one line of JSON, which has this text
-  -- as well.
+  -- as well, or what follows the brace that opens it.
   abbrev pub explanation_text : Format → ℕ → Verdict → List ℕ → Parts → Option Beside → List ℕ
   explanation_text Text events verdict lines parts beside = whole_text verdict lines beside
-  explanation_text Json events verdict lines parts beside =
-      explanation_json names (answer_status verdict) (answer_text verdict) events parts (beside_map events beside) (without_end (whole_text verdict lines beside)) ++ codes "\n"
+  explanation_text Json events verdict lines parts beside = json_line events verdict lines parts beside
+  explanation_text Rest events verdict lines parts beside = drop 1 (json_line events verdict lines parts beside)
 
   -- an answer that is right, with what explains it, and what is told beside it
   pub record IsExplanation (format : Format) (now : Present) (asked : Asked) (places : Option (List Place)) (text : List ℕ) (status : Status) : Type 0 where
@@ -113,15 +118,65 @@ module _ (names : List (List ℕ)) where
   IsExplainReply keyed now scope reply status = (text : List ℕ) × (found : Status) × IsExplanation Text now (asked_by keyed scope) None text found
       × (reply ≡ codes "explained " ++ decimal (line_count text) ++ codes "\n" ++ text) × (status ≡ Some found)
 
--- the line that refuses a file, the one that tells where and why, and a hint if there is one
+abbrev pub is_yes : Verdict → Bool
+is_yes (IllFormed at cause) = false
+is_yes Yes = true
+is_yes (No n) = false
+is_yes (Undecided at) = false
+
+-- what stands between two explanations: an empty line, but nothing between lines of JSON, and nothing in front of the first
+abbrev pub between : Format → List ℕ → List ℕ
+between Text [] = []
+between Text (c ∷ text) = codes "\n"
+between Json text = []
+between Rest text = []
+
+-- of objects of which this is found, the explanations of those that aren't a yes, each as where its key is asked about
+pub data AreExplained (names : List (List ℕ)) (format : Format) (now : Present) (asked : Asked) (places : Option (List Place)) : List Finding → List ℕ → Type 0 where
+  nothing : AreExplained names format now asked places [] []
+  one_yes : {found : List Finding} {text : List ℕ} → AreExplained names format now asked places found text → (f : Finding) → is_yes f.verdict ≡ true
+      → AreExplained names format now asked places (found ++ f ∷ []) text
+  one_more : {found : List Finding} {text : List ℕ} → AreExplained names format now asked places found text → (f : Finding) (more : List ℕ) (status : Status)
+      → is_yes f.verdict ≡ false → IsExplanation names format now (record asked { key = Some f.key }) places more status
+      → AreExplained names format now asked places (found ++ f ∷ []) ((text ++ between format text) ++ more)
+
+-- of each object that isn't a yes, with the status of the whole; or, where there is none such, the explanation of the whole
+pub record IsAllExplained (names : List (List ℕ)) (format : Format) (now : Present) (asked : Asked) (places : Option (List Place)) (text : List ℕ) (status : Status) : Type 0 where
+  pub findings : Findings
+  pub each : List ℕ
+  pub has_found : HasFound names now findings
+  pub are_explained : AreExplained names format now asked places findings.objects.items each
+  pub some : each ≢ [] → (text ≡ each) × (status ≡ answer_status findings.whole)
+  pub none : each ≡ [] → IsExplanation names format now asked places text status
+
+-- each object is asked about, as no key is named
+abbrev pub is_for_all : Bool → Option Item → Bool
+is_for_all false key = false
+is_for_all true None = true
+is_for_all true (Some key) = false
+
+-- of each object, or as the key says
+abbrev pub IsToldBy : Bool → List (List ℕ) → Format → Present → Asked → Option (List Place) → List ℕ → Status → Type 0
+IsToldBy true names format now asked places text status = IsAllExplained names format now asked places text status
+IsToldBy false names format now asked places text status = IsExplanation names format now asked places text status
+
+-- as it is asked
+abbrev pub IsToldFor : List (List ℕ) → Bool → Format → Present → Asked → Option (List Place) → List ℕ → Status → Type 0
+IsToldFor names all_keys format now asked places text status = IsToldBy (is_for_all all_keys asked.key) names format now asked places text status
+
+-- the line that refuses a file, the one that tells where and why, and the lines that hint at what to do
 abbrev pub refusal_lines : Marked → Refusal → List ℕ → List ℕ
 refusal_lines marked refusal hint = refusal_text refusal ++ codes "\n" ++ refused_text marked refusal ++ hint
+
+abbrev pub refused_line : Marked → Refusal → List ℕ → List ℕ
+refused_line marked refusal hint =
+    refusal_json ends.Refused (refusal_text refusal) (place_in marked refusal) (without_end (refusal_lines marked refusal hint)) ++ codes "\n"
 
 -- what is told of a file that is refused
 abbrev pub refused_told : Format → Marked → Refusal → List ℕ → List ℕ
 refused_told Text marked refusal hint = refusal_lines marked refusal hint
-refused_told Json marked refusal hint =
-    refusal_json ends.Refused (refusal_text refusal) (place_in marked refusal) (without_end (refusal_lines marked refusal hint)) ++ codes "\n"
+refused_told Json marked refusal hint = refused_line marked refusal hint
+refused_told Rest marked refusal hint = drop 1 (refused_line marked refusal hint)
 
 -- the key that is said, by each numbering that agrees with these names; none where none is
 abbrev pub IsKey : List (List ℕ) → Option Said → Option Item → Type 0
@@ -131,14 +186,14 @@ abbrev pub asked_in : Settings → Question → Option Item → Asked
 asked_in settings question key = record { key = key; with_order = question.with_order; keyed = settings.keyed }
 
 -- What is right to print of the bytes of a file, with the status: why they are refused, and where; or an explanation of the history that they
--- are, for the object of the key that is said or the whole. The places are those that the bytes have.
+-- are, for the object of the key that is said, the whole, or each object that isn't a yes. The places are those that the bytes have.
 abbrev pub IsRightExplanation : Settings → Question → List ℕ → Option (List ℕ) → List ℕ → Status → Type 0
 IsRightExplanation settings question bytes left text status = (names : List (List ℕ)) × AreEachOnce names
     × (marked : Marked) × ((m : Reading) → IsReading settings.keyed names m → Marks m marked bytes) × (marked.keyed ≡ settings.keyed)
     × (((refusal : Refusal) × AreRefusedFor settings.keyed names settings.at_least bytes refusal × StopsFor refusal left
     × ((hint : List ℕ) × IsHint settings.keyed bytes marked refusal hint × (text ≡ refused_told question.format marked refusal hint)) × (status ≡ ends.Refused))
     ⊎ ((events : List Event) × IsEnough settings.keyed names settings.at_least bytes events × IsAtEnd left × (key : Option Item) × IsKey names question.key key
-    × IsExplanation names question.format (opened settings events) (asked_in settings question key) (Some marked.places) text status))
+    × IsToldFor names question.all_keys question.format (opened settings events) (asked_in settings question key) (Some marked.places) text status))
 
 -- what a run reads and writes, and how it ends
 abbrev pub IsExplainRun : Settings → Question → Option (List ℕ) → Option (List ℕ) → Option (List ℕ) → Option (List ℕ) → Result Status RunFault → Type 0

@@ -1,5 +1,5 @@
 -- The text of a report, and what is right to report of a history and of a file.
-use Rattle.std.specs.Prelude.{◌≡◌, ◌≤◌, ◌^◌, ◌++◌, ◌⊎◌, if◌then◌else◌, ℕ, Bool, true, false, List, [], Option, Result, Ok, Err, All, codes, decimal, length, map, take}
+use Rattle.std.specs.Prelude.{◌≡◌, ◌≤◌, ◌^◌, ◌++◌, ◌⊎◌, if◌then◌else◌, ℕ, Bool, true, false, List, [], Option, Result, Ok, Err, All, codes, decimal, drop, length, map, take}
 use Rattle.std.specs.Io.KnownBytes.{Appends, Consumes, IsAtEnd, Keeps}
 use Rattle.std.specs.List.{flat_map, join_by}
 use Rattle.lin_events.specs.declared.events.Event.{Event}
@@ -31,7 +31,7 @@ use Rattle.lin_report.specs.Failing.{failing_key}
 use Rattle.lin_report.specs.declared.findings.Finding.{Finding}
 use Rattle.lin_report.specs.declared.findings.Findings.{Findings}
 use Rattle.lin_report.specs.declared.formats.Format.{Format}
-use Rattle.lin_report.specs.declared.formats.Format.TheVariants.{Text, Json}
+use Rattle.lin_report.specs.declared.formats.Format.TheVariants.{Text, Json, Rest}
 
 -- the text of an answer without its order
 abbrev pub answer_text : Verdict → List ℕ
@@ -83,12 +83,17 @@ module _ (names : List (List ℕ)) where
   json_objects kinds found = join_by (λ f. json_object (kinds f.key) f) (codes ",") found
 
   -- The report of a history of so many keys: what is found of its objects, and of the whole. As text there is a line that counts, one for each
-  -- object, and one for the whole; as JSON one line for all, which names the object that fails first where the whole is undecided and one is a no.
+  -- object, and one for the whole; as JSON one line for all, which names the object that fails first where the whole is undecided and one is a no,
+  -- or what follows the brace that opens this line.
+  abbrev pub json_report : Present → ℕ → List Finding → Verdict → List ℕ
+  json_report now keys found whole =
+      checked_json names (failing_key whole found) (answer_status whole) (answer_text whole) (length now.history) (json_objects (kinds_in now) found) ++ codes "\n"
+
   abbrev pub report_text : Format → Present → ℕ → List Finding → Verdict → List ℕ
   report_text Text now keys found whole =
       counts_text (length now.history) keys ++ lines_text (kinds_in now) found ++ codes "whole: " ++ (answer_text whole ++ codes "\n")
-  report_text Json now keys found whole =
-      checked_json names (failing_key whole found) (answer_status whole) (answer_text whole) (length now.history) (json_objects (kinds_in now) found) ++ codes "\n"
+  report_text Json now keys found whole = json_report now keys found whole
+  report_text Rest now keys found whole = drop 1 (json_report now keys found whole)
 
   -- What is found of a history: of each of its keys, in the order of print, what is found of its object, and what is found of the whole. Of a
   -- history that isn't well-formed no object is named.
@@ -117,6 +122,7 @@ opened settings events = record { history = events; kinds = same_for_all setting
 abbrev pub refusal_line : Format → Refusal → List ℕ
 refusal_line Text refusal = refusal_text refusal ++ codes "\n"
 refusal_line Json refusal = answer_json ends.Refused (refusal_text refusal) ++ codes "\n"
+refusal_line Rest refusal = drop 1 (answer_json ends.Refused (refusal_text refusal) ++ codes "\n")
 
 -- What is right to print of the bytes of a file, with the status: why they are refused; or, where they are a whole history and no
 -- byte is left, a report of it. Words are told by the spellings by which they are read.

@@ -1,5 +1,5 @@
 -- What a run of commands reads and writes.
-use Rattle.std.specs.Prelude.{◌≡◌, ◌≢◌, ◌==◌, ◌≤◌, ◌-◌, ◌^◌, ◌++◌, ◌∷◌, [], ◌⊎◌, if◌then◌else◌, nat_lt, ℕ, Bool, true, false, List, Option, None, Some, Result, Ok, Err, codes, decimal, length, take, unwrap_or}
+use Rattle.std.specs.Prelude.{All, ◌≡◌, ◌≢◌, ◌==◌, ◌≤◌, ◌-◌, ◌^◌, ◌++◌, ◌∷◌, [], ◌⊎◌, if◌then◌else◌, nat_lt, ℕ, Bool, true, false, List, Option, None, Some, Result, Ok, Err, codes, decimal, length, take, unwrap_or}
 use Rattle.std.specs.Option.{option_or}
 use Rattle.std.specs.Io.KnownBytes.{Appends, Consumes, IsAtEnd}
 use Rattle.lin_events.specs.declared.events.Event.{Event}
@@ -9,6 +9,8 @@ use Rattle.lin_history.specs.declared.follow.FollowFault.{FollowFault}
 use Rattle.lin_history.specs.declared.follow.FollowFault.TheVariants as fault
 use Rattle.lin_history.specs.Stream.{IsStreamBy}
 use Rattle.lin_names.specs.Names.{AreEachOnce, Begins}
+use Rattle.lin_orders.specs.Parts.{part}
+use Rattle.lin_order.specs.Refutations.{Config, IsRefutation}
 use Rattle.lin_answers.specs.Answers.{IsAnswer, IsVerdict, kinds_in, verdict_of, IsOverSomewhere}
 use Rattle.lin_answers.specs.Edits.{Present, IsRefused, edited}
 use Rattle.lin_answers.specs.declared.answers.Answer.{Answer}
@@ -74,10 +76,12 @@ IsEditReply edit before after text =
     ⊎ ((fault : EditFault) × IsRefusedFor edit before fault × (after ≡ before) × (text ≡ edit_fault_text fault ++ codes "\n"))
 
 -- What is written of the refutation of an object, and the status where that is an answer: how many events the shortest prefix has
--- that fails it; an answer that isn't a no; or, of a no whose sets the budget may not hold, that they are too large.
+-- that fails it, of which sets show that it does; an answer that isn't a no; or, of a no whose sets the budget may not hold, that they are too
+-- large.
 abbrev pub IsRefuteReply : Present → Item → List ℕ → Option Status → Type 0
 IsRefuteReply now key text status =
     ((n : ℕ) × IsVerdict now (scope.Object key) (verdict.No n)
+    × ((sets : List (List Config)) × IsRefutation (part key (take n now.history)) (kinds_in now key) sets)
     × (text ≡ codes "refuted prefix " ++ decimal n ++ codes "\n") × (status ≡ Some status_of.No))
     ⊎ ((found : Verdict) × IsVerdict now (scope.Object key) found × ((n : ℕ) → found ≢ verdict.No n)
     × (text ≡ answer_text found ++ codes "\n") × (status ≡ Some (answer_status found)))
@@ -196,13 +200,37 @@ pub data AreReplies (keyed : Bool) (start : RunState) : List (List ℕ) → RunS
 abbrev pub start_of : Settings → Option (List ℕ) → RunState
 start_of settings file = record { present = opened settings []; names = []; bytes = []; put = []; left = file }
 
--- the bytes begin with these lines, whatever comes behind them
-abbrev pub BeginWith : List ℕ → List (List ℕ) → Type 0
-BeginWith bytes lines = (rest : List ℕ) × ((more : List ℕ) → lines_of (bytes ++ more) ≡ lines ++ lines_of (rest ++ more))
+-- the bytes begin with these lines, whatever comes behind them, and this is left of them
+abbrev pub BeginWith : List ℕ → List (List ℕ) → List ℕ → Type 0
+BeginWith bytes lines rest = (more : List ℕ) → lines_of (bytes ++ more) ≡ lines ++ lines_of (rest ++ more)
 
--- the lines are whole in the bytes: they begin with them, or these are all and nothing comes
-abbrev pub AreRead : List ℕ → Option (List ℕ) → List (List ℕ) → Type 0
-AreRead bytes left lines = BeginWith bytes lines ⊎ (IsAtEnd left × (lines_of bytes ≡ lines))
+-- no byte 10 stands in the text
+abbrev pub IsUnended : List ℕ → Type 0
+IsUnended text = All (λ c. c ≢ 10) text
+
+-- the line says `pull`
+abbrev pub SaysPull : Bool → List ℕ → Type 0
+SaysPull keyed line = (names : List (List ℕ)) × IsCommandBy keyed names line (Ok (Some Pull))
+
+-- the next line is whole, and says `pull`
+pub record PullsNext (keyed : Bool) (rest : List ℕ) : Type 0 where
+  pub line : List ℕ
+  pub behind : List ℕ
+  pub stands : rest ≡ line ++ 10 ∷ behind
+  pub unended : IsUnended line
+  pub says : SaysPull keyed line
+
+-- What is left of the commands where a reader failed: no whole line, as each is carried out, and its reply written, before more is read; or a
+-- `pull` is next, as only that reads the file.
+abbrev pub IsLeftFor : Bool → RunFault → List ℕ → Type 0
+IsLeftFor keyed ReadFailed rest = IsUnended rest ⊎ PullsNext keyed rest
+IsLeftFor keyed WriteFailed rest = Unit {0}
+IsLeftFor keyed OutOfMemory rest = Unit {0}
+IsLeftFor keyed TooMuch rest = Unit {0}
+
+-- the lines are whole in the bytes: they begin with them, and what is left is so at the fault; or these are all and nothing comes
+abbrev pub AreRead : Bool → RunFault → List ℕ → Option (List ℕ) → List (List ℕ) → Type 0
+AreRead keyed fault bytes left lines = ((rest : List ℕ) × BeginWith bytes lines rest × IsLeftFor keyed fault rest) ⊎ (IsAtEnd left × (lines_of bytes ≡ lines))
 
 -- these lines were carried out, and this is so of their replies; what was read of the file behind them goes with the next line
 abbrev pub AreCarriedOut : Bool → RunState → List (List ℕ) → Option (List ℕ) → (List ℕ → Type 0) → Type 0
@@ -225,7 +253,7 @@ IsEditRun settings file file' commands commands' out out' (Ok status) =
     × (end : RunState) × (text : List ℕ) × (last : Option Status) × AreReplies settings.keyed (start_of settings file) (lines_of bytes) end text last
     × (file' ≡ end.left) × Appends out out' text × (status ≡ unwrap_or last status_of.Yes)
 IsEditRun settings file file' commands commands' out out' (Err fault) =
-    ((bytes : List ℕ) × Consumes commands commands' bytes × (lines : List (List ℕ)) × AreRead bytes commands' lines
+    ((bytes : List ℕ) × Consumes commands commands' bytes × (lines : List (List ℕ)) × AreRead settings.keyed fault bytes commands' lines
     × AreCarriedOut settings.keyed (start_of settings file) lines file' (IsWritten fault out out'))
     × (fault ≡ TooMuch → IsReadTooFar file file' ⊎ IsReadTooFar commands commands')
 

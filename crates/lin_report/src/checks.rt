@@ -7,7 +7,7 @@ ghost use Rattle.lin_formats.specs.Inputs.{limit};
 ghost use Rattle.lin_report.specs.Reports.{IsChecked, IsCheckRun, IsReport, opened, refusal_line};
 ghost use Rattle.lin_formats.specs.Verdicts.{is_write_failed, IsReadTooFar};
 
-use crate::formats::Format;
+use crate::formats::{Format, take_first_away};
 use crate::json_reports::json_refusal;
 use crate::reports::report;
 use crate::sessions::{names_are_apart, session_of};
@@ -59,6 +59,11 @@ pub fn refused(alloc: Global, format: Format, refusal: Refusal) -> Result<Answer
     let text = match format {
         Format::Text => text_refusal(alloc, refusal)?,
         Format::Json => json_refusal(alloc, refusal)?,
+        Format::Rest => {
+            let mut line = json_refusal(alloc, refusal)?;
+            take_first_away(&mut line);
+            line
+        }
     };
     Ok(Answered {
         text,

@@ -16,7 +16,7 @@ use crate::explaining::{item_of, scope_of, told_of};
 use crate::formats::Format;
 use crate::sessions::{names_are_apart, session_of};
 use lin_answers::{Answer, Scope};
-use lin_draw::{Orders, picture_with_places};
+use lin_draw::{Orders, Wanted, picture_with_places};
 use lin_events::{Event, Item, OutOfMemory};
 use lin_explain::Asked;
 use lin_formats::{Counted, History, RunFault, Settings, Status, write_whole};
@@ -57,6 +57,7 @@ fn picture_of(
     names: &Names,
     answer: &Answer,
     asked: Asked,
+    last: Option<u32>,
     places: &Places,
 ) -> Result<Vec<u8>, OutOfMemory>
     requires { IsAnswer session.old.present (scope_for asked.key) answer.now }
@@ -70,9 +71,12 @@ fn picture_of(
         &session.present(),
         names,
         answer,
-        asked.key,
-        &told.lines,
-        places,
+        Wanted {
+            key: asked.key,
+            lines: &told.lines,
+            places,
+            last,
+        },
     )
 }
 
@@ -81,6 +85,7 @@ fn drawing_of(
     alloc: Global,
     settings: Settings,
     key: Option<Item>,
+    last: Option<u32>,
     names: &Names,
     events: Vec<Event>,
     places: &Places,
@@ -100,7 +105,7 @@ fn drawing_of(
             with_order: false,
             keyed: settings.keyed,
         };
-        picture_of(alloc, &mut session, names, &answer, asked, places)?
+        picture_of(alloc, &mut session, names, &answer, asked, last, places)?
     };
     Ok(Answered {
         text,
@@ -113,6 +118,7 @@ fn find<R: Read>(
     alloc: Global,
     settings: Settings,
     key: Option<Said>,
+    last: Option<u32>,
     file: &mut Counted<R>,
 ) -> Result<Answered, RunFault>
     requires budget { (1 ≤ settings.budget) × (settings.budget ≤ 1000000) }
@@ -135,20 +141,22 @@ fn find<R: Read>(
     match history {
         History::Whole(events) => {
             let places = &placed.places;
-            Ok(drawing_of(alloc, settings, key, &names, events, places)?)
+            Ok(drawing_of(alloc, settings, key, last, &names, events, places)?)
         }
         History::Refused(refusal) => Ok(refused(alloc, Format::Text, refusal)?),
     }
 }
 
 /// Draws the history in a file, with what is found of it for the whole or for the object of a key: writes a picture as SVG, and gives the
-/// status. Of a history that isn't well-formed, and of a file that is refused, it writes the line that says so.
+/// status. Of a history that isn't well-formed, and of a file that is refused, it writes the line that says so. At most 20 operations are drawn,
+/// or as many as `last` says, however wide that is.
 ///
 /// The file is read as by `check`, which see for what is asked and for errors. Of what is drawn no promise says more than that it is an SVG.
 pub fn draw<R: Read, W: Write>(
     alloc: Global,
     settings: Settings,
     key: Option<Said>,
+    last: Option<u32>,
     file: &mut Counted<R>,
     out: &mut Counted<W>,
 ) -> Result<Status, RunFault>
@@ -160,7 +168,7 @@ pub fn draw<R: Read, W: Write>(
     ensures read_counts { Counts (is_read_failed result) (failures_of file.old) (failures_of file.new) }
     ensures write_counts { Counts (is_write_failed result) (failures_of out.old) (failures_of out.new) }
 {
-    let answered = find(alloc, settings, key, file)?;
+    let answered = find(alloc, settings, key, last, file)?;
     write_whole(out, answered.text.as_slice())?;
     Ok(answered.status)
 }

@@ -8,7 +8,6 @@ ghost use Rattle.lin_formats.specs.Verdicts.{is_write_failed, IsReadTooFar};
 ghost use Rattle.lin_report.specs.Explanations.{IsExplainRun, IsExplanation, IsKey, IsRightExplanation, explanation_text, key_of as key_in, line_count as lines_in, refusal_lines as lines_for, refused_told};
 ghost use Rattle.lin_explain.specs.Explained.{Explains, scope_of as scope_for};
 ghost use Rattle.lin_explain.specs.Work.{least_steps, most_passes};
-ghost use Rattle.lin_reading.specs.Hints.{hint_text};
 ghost use Rattle.lin_names.specs.Names.{Begins};
 ghost use Rattle.lin_answers.specs.Answers.{IsAnswer, verdict_of as verdict_in};
 ghost use Rattle.lin_session.specs.Sessions.{IsQuestion};
@@ -19,7 +18,8 @@ ghost use Rattle.lin_report.specs.declared.commands.Command.TheVariants as comma
 use crate::answers::{status_of, verdict_of};
 use crate::beside::{Beside, beside_of, whole_words};
 use crate::checks::Answered;
-use crate::formats::Format;
+use crate::each::told_for;
+use crate::formats::{Format, take_first_away};
 use crate::json_explanations::{json_explanation, json_refused};
 use crate::replies::Reply;
 use crate::sessions::{names_are_apart, session_of};
@@ -42,6 +42,8 @@ use std::io::{Read, Write};
 pub struct Question<'a> {
     /// The object of this key, or the whole.
     pub key: Option<Said<'a>>,
+    /// Where the whole is asked about: each object that isn't a yes, if one isn't.
+    pub all_keys: bool,
     /// Whether a yes ends with its order.
     pub with_order: bool,
     /// How the explanation is printed.
@@ -95,6 +97,11 @@ fn told_as(
     match format {
         Format::Text => whole_words(alloc, names, verdict, &told.lines, beside),
         Format::Json => json_explanation(alloc, names, events, verdict, told, beside),
+        Format::Rest => {
+            let mut line = json_explanation(alloc, names, events, verdict, told, beside)?;
+            take_first_away(&mut line);
+            Ok(line)
+        }
     }
 }
 
@@ -151,24 +158,26 @@ pub fn told_of(
 }
 
 /// An explanation of the answer for the scope, and of an object that is a no beside it. What it takes is counted, beside what the question takes.
-fn explanation(
+pub(crate) fn explanation(
     alloc: Global,
     session: &mut Session,
     names: &Names,
+    format: Format,
     scope: Scope,
     asked: Asked,
+    places: Option<&[Place]>,
 ) -> Result<Answered, OutOfMemory>
     requires { scope_for asked.key ≡ scope }
-    ensures explained { IfOk result (λ answered. IsExplanation names.now Format.Text session.old.present asked None answered.text.items answered.status) }
+    ensures explained { IfOk result (λ answered. IsExplanation names.now format session.old.present asked (option_map (λ p. p.now) places.entry) answered.text.items answered.status) }
     ensures present { session.new.present ≡ session.old.present }
-    ensures question { IsQuestion scope (12 * length session.old.present.history) session.old session.new }
+    ensures question { IsQuestion scope (13 * length session.old.present.history) session.old session.new }
 {
     let answer = session.order(alloc, scope)?;
-    let beside = beside_of(alloc, session, names, &answer, asked, None)?;
-    let told = told_of(alloc, session, names, &answer, asked, None)?;
+    let beside = beside_of(alloc, session, names, &answer, asked, places)?;
+    let told = told_of(alloc, session, names, &answer, asked, places)?;
     let count = session.len();
     let also = beside.as_ref();
-    Ok(answered(alloc, names, Format::Text, count, &answer, &told, also)?)
+    Ok(answered(alloc, names, format, count, &answer, &told, also)?)
 }
 
 /// How many lines a text has.
@@ -184,8 +193,8 @@ fn line_count(text: &[u8]) -> usize
     count
 }
 
-/// The reply to a command that asks why: how many lines follow, and they. At most twelve steps are counted for each event of the history, beside
-/// those of the question: ten for a yes, seven for a no, five for what is undecided, and seven for an object that is a no beside that.
+/// The reply to a command that asks why: how many lines follow, and they. At most thirteen steps are counted for each event of the history, beside
+/// those of the question: ten for a yes, seven for a no, six for what is undecided, and seven for an object that is a no beside that.
 pub fn explain_reply(
     alloc: Global,
     keyed: bool,
@@ -194,14 +203,14 @@ pub fn explain_reply(
     scope: Scope,
 ) -> Result<Reply, OutOfMemory>
     ensures reply { IfOk result (λ reply. IsCommandReply names.now keyed (command.Explain scope) session.old.present session.new.present reply.text.items reply.status) }
-    ensures question { IsQuestion scope (12 * length session.old.present.history) session.old session.new }
+    ensures question { IsQuestion scope (13 * length session.old.present.history) session.old session.new }
 {
     let asked = Asked {
         key: key_of(scope),
         with_order: false,
         keyed,
     };
-    let answered = explanation(alloc, session, names, scope, asked)?;
+    let answered = explanation(alloc, session, names, Format::Text, scope, asked, None)?;
     let mut text = Vec::from_slice(alloc, b"explained ")?;
     put_number(&mut text, line_count(answered.text.as_slice()) as u64)?;
     text.push(b'\n')?;
@@ -232,7 +241,7 @@ fn explained_last(
 }
 
 /// An explanation of these events.
-fn explained(
+pub(crate) fn explained(
     alloc: Global,
     settings: Settings,
     format: Format,
@@ -257,7 +266,7 @@ fn explained(
 
 /// The lines that are told of a file that is refused.
 fn refused_lines(alloc: Global, refusal: Refusal, placed: &Placed) -> Result<Vec<u8>, OutOfMemory>
-    ensures { IfOk result (λ text. text.items ≡ lines_for placed.now.places refusal (hint_text placed.now.is_pair)) }
+    ensures { IfOk result (λ text. text.items ≡ lines_for placed.now.places refusal placed.now.hints.items) }
 {
     let lines = refusal_lines(alloc, refusal, placed)?;
     let mut text = refusal_words(alloc, refusal)?;
@@ -273,12 +282,17 @@ fn refused(
     refusal: Refusal,
     placed: &Placed,
 ) -> Result<Answered, OutOfMemory>
-    ensures { IfOk result (λ answered. (answered.text.items ≡ refused_told format placed.now.places refusal (hint_text placed.now.is_pair)) × (answered.status ≡ Status.Refused)) }
+    ensures { IfOk result (λ answered. (answered.text.items ≡ refused_told format placed.now.places refusal placed.now.hints.items) × (answered.status ≡ Status.Refused)) }
 {
     let lines = refused_lines(alloc, refusal, placed)?;
     let text = match format {
         Format::Text => lines,
         Format::Json => json_refused(alloc, refusal, &placed.places, &lines)?,
+        Format::Rest => {
+            let mut line = json_refused(alloc, refusal, &placed.places, &lines)?;
+            take_first_away(&mut line);
+            line
+        }
     };
     Ok(Answered {
         text,
@@ -314,13 +328,12 @@ fn find<R: Read>(
         &mut names,
     )?;
     names_are_apart(&names);
-    let format = question.format;
     match history {
         History::Whole(events) => {
             let places = &placed.places;
-            Ok(explained(alloc, settings, format, asked, &names, events, places)?)
+            Ok(told_for(alloc, settings, question, asked, &names, events, places)?)
         }
-        History::Refused(refusal) => Ok(refused(alloc, format, refusal, &placed)?),
+        History::Refused(refusal) => Ok(refused(alloc, question.format, refusal, &placed)?),
     }
 }
 

@@ -6,6 +6,7 @@ mod beside;
 mod checks;
 mod commands;
 mod drawing;
+mod each;
 mod explaining;
 mod failing;
 mod findings;

@@ -6,7 +6,7 @@ ghost use Rattle.lin_report.specs.Reports.{IsReport, answer_text, counts_text, l
 
 use crate::answers::{status_of, verdict_words};
 use crate::findings::{Finding, Findings, find};
-use crate::formats::Format;
+use crate::formats::{Format, take_first_away};
 use crate::json_reports::put_json_report;
 use lin_answers::Verdict;
 use lin_events::OutOfMemory;
@@ -101,6 +101,10 @@ fn reported_as(
     match format {
         Format::Text => put_text_report(alloc, &mut text, names, session, found)?,
         Format::Json => put_json_report(alloc, &mut text, names, session, found)?,
+        Format::Rest => {
+            put_json_report(alloc, &mut text, names, session, found)?;
+            take_first_away(&mut text);
+        }
     }
     Ok(text)
 }

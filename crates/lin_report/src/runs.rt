@@ -6,7 +6,7 @@ ghost use Rattle.lin_formats.specs.Devices.{device_of, failures_of, Counts};
 ghost use Rattle.lin_report.specs.inner.Engines.{Holds, IsCarriedOut, IsCutOff, IsCutShort, IsFinished, IsUnderWay, Moves, ReadsPart};
 ghost use Rattle.lin_formats.specs.Histories.{is_read_failed};
 ghost use Rattle.lin_report.specs.Pulls.{StandsAt};
-ghost use Rattle.lin_report.specs.Runs.{CountsOne, IsDone, IsEditRun, IsReply, RunState, pull_text, start_of};
+ghost use Rattle.lin_report.specs.Runs.{CountsOne, IsDone, IsEditRun, IsReply, RunState, SaysPull, pull_text, start_of};
 ghost use Rattle.lin_formats.specs.Verdicts.{is_write_failed};
 
 use crate::commands::{Command, read_command};
@@ -75,6 +75,7 @@ fn reply_to_pull<R: Read>(
     ensures readers { IsErrOf result RunFault.WriteFailed → ⊥ }
 {
     let refused = pull(session, follow, file, names)?;
+    file.keep_refusal(refused);
     Ok(Reply::plain(pull_line(alloc, refused, session.len())?))
 }
 
@@ -93,6 +94,7 @@ fn reply<R: Read>(
         → Moves keyed session.old.present session.new.present names.old names.new follow.old follow.new (R.remaining (device_of file.old)) (R.remaining (device_of file.new))
         (λ before end. IsReply keyed before line end reply.text.items reply.status)) }
     ensures reads { ReadsPart names.old names.new follow.old (R.remaining (device_of file.old)) (R.remaining (device_of file.new)) (IsErrOf result RunFault.TooMuch) }
+    ensures pulls { IsErrOf result RunFault.ReadFailed → (line : List ℕ) → held.now ≡ take (longest_line + 1) line → SaysPull keyed line }
     ensures counts { Counts (is_read_failed result) (failures_of file.old) (failures_of file.new) }
     ensures readers { IsErrOf result RunFault.WriteFailed → ⊥ }
 {
@@ -276,7 +278,8 @@ impl Engine {
 ///
 /// Errors: `ReadFailed` and `WriteFailed`, only where such a device failed; want of memory; `TooMuch` where the file or the commands
 /// have more than 1,099,511,627,776 bytes. After `WriteFailed` a beginning of the replies is written, after the others the replies
-/// to all earlier commands, whole.
+/// to all earlier commands, whole: after `ReadFailed` of the commands to each whole line of them, of the file to each line ahead of the
+/// `pull`.
 pub fn run<R: Read, C: Read, W: Write>(
     alloc: Global,
     settings: Settings,

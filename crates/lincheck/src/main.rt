@@ -50,6 +50,9 @@ impl<'a> System for Host<'a> {
             Message::NothingRead(path) => {
                 eprintln!(self.runtime; "lincheck: {path}: no event of a client was read")
             }
+            Message::Refused(path, words) => {
+                eprintln!(self.runtime; "lincheck: {path}: {words}")
+            }
             Message::Fault(fault) => println!(self.runtime; "lincheck: {fault}"),
             Message::OutOfMemory => println!(self.runtime; "lincheck: 3 OutOfMemory"),
             Message::NoText => println!(self.runtime; "lincheck: the command line is no text"),

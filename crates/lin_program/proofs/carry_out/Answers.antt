@@ -4,14 +4,18 @@ use Rattle.lin_report.specs.Explanations.{IsExplainRun}
 use Rattle.lin_report.specs.Reports.{IsCheckRun}
 use Rattle.lin_program.specs.Endings.{IsOutcomeOf, IsVerifiedBy, reported_files}
 use Rattle.lin_program.specs.Reporting.{AreAmong, AreReported}
+use Rattle.lin_program.specs.Tasks.{format_among, heading_in}
+use Rattle.lin_report.specs.declared.formats.Format.TheVariants.{Text}
 use Rattle.lin_program.proofs.carry_out.Goals as goal
 
 pub returns-in-Check-clause-outcome : goal.returns-in-Check-clause-outcome
 returns-in-Check-clause-outcome g c =
-    let named = subst (λ f. AreReported g.S.System.words g.S.File.Read.remaining g.S.Commands.Read.remaining c.args.system.now g.S.Out.Write.contents (IsCheckRun c.in-Check.settings f)
+    let named = subst (λ f. AreReported g.S.System.words g.S.File.Read.remaining g.S.Commands.Read.remaining c.args.system.now g.S.Out.Write.contents
+    (λ several. IsCheckRun c.in-Check.settings (format_among several f)) (λ several. heading_in (format_among several f))
     (map (λ n. n.now) c.as_slice.result.now) c.report_all.result) c.report_format.ensures c.report_all.ensures.reported in
     let all = subst (λ ns. AreReported g.S.System.words g.S.File.Read.remaining g.S.Commands.Read.remaining c.args.system.now g.S.Out.Write.contents
-    (IsCheckRun c.in-Check.settings (Rattle.lin_program.specs.Tasks.report_format c.in-Check.format)) (map (λ n. n.now) ns) c.report_all.result) c.as_slice.ensures.value named in
+    (λ several. IsCheckRun c.in-Check.settings (format_among several (Rattle.lin_program.specs.Tasks.report_format c.in-Check.format)))
+    (λ several. heading_in (format_among several (Rattle.lin_program.specs.Tasks.report_format c.in-Check.format))) (map (λ n. n.now) ns) c.report_all.result) c.as_slice.ensures.value named in
     subst (λ l. IsOutcomeOf g.S.System.words g.S.File.Read.remaining g.S.Commands.Read.remaining g.S.Out.Write.contents c.args.system.now l c.report_all.result) (sym c.in-Check.is) all
 
 pub returns-in-Verify-clause-outcome : goal.returns-in-Verify-clause-outcome
@@ -23,7 +27,8 @@ returns-in-Verify-clause-outcome g c =
 pub returns-in-Explain-clause-outcome : goal.returns-in-Explain-clause-outcome
 returns-in-Explain-clause-outcome g c =
     let named = subst (λ f. AreReported g.S.System.words g.S.File.Read.remaining g.S.Commands.Read.remaining c.args.system.now g.S.Out.Write.contents
-    (IsExplainRun c.in-Explain.settings (record { key = c.in-Explain.key; with_order = c.in-Explain.with_order; format = f })) (c.in-Explain.file.now ∷ []) c.report_all-in-Explain.result)
+    (λ several. IsExplainRun c.in-Explain.settings (record { key = c.in-Explain.key; all_keys = c.in-Explain.all_keys; with_order = c.in-Explain.with_order; format = f }))
+    (λ several. heading_in Text) (c.in-Explain.file.now ∷ []) c.report_all-in-Explain.result)
     c.report_format-in-Explain.ensures c.report_all-in-Explain.ensures.reported in
     subst (λ l. IsOutcomeOf g.S.System.words g.S.File.Read.remaining g.S.Commands.Read.remaining g.S.Out.Write.contents c.args.system.now l c.report_all-in-Explain.result) (sym c.in-Explain.is) named
 

@@ -7,14 +7,14 @@ use Rattle.lin_history.specs.Sees.{Followed}
 use Rattle.lin_answers.specs.Edits.{Present}
 use Rattle.lin_report.specs.Commands.{longest_line}
 use Rattle.lin_report.specs.Pulls.{StandsAt}
-use Rattle.lin_report.specs.Runs.{AreCarriedOut, AreMore, AreRead, IsReply, AreReplies, IsWritten, RunState, lines_of}
+use Rattle.lin_report.specs.Runs.{AreCarriedOut, AreMore, AreRead, IsReply, AreReplies, IsWritten, RunState, SaysPull, lines_of}
 use Rattle.lin_formats.specs.Intakes.{AreSeen}
 use Rattle.lin_formats.specs.Verdicts.{IsReadTooFar}
 use Rattle.lin_texts.specs.declared.status.Status.{Status}
 use Rattle.lin_texts.specs.declared.status.Status.TheVariants.{Yes}
 use Rattle.lin_report.specs.declared.runs.Engine.{Engine}
 use Rattle.lin_texts.specs.declared.faults.RunFault.{RunFault}
-use Rattle.lin_texts.specs.declared.faults.RunFault.TheVariants.{WriteFailed, TooMuch}
+use Rattle.lin_texts.specs.declared.faults.RunFault.TheVariants.{ReadFailed, WriteFailed, TooMuch}
 
 -- from where the run stands, it comes to stand elsewhere, and this is so
 abbrev pub Moves : Bool → Present → Present → List (List ℕ) → List (List ℕ) → Followed → Followed → Option (List ℕ) → Option (List ℕ) → (RunState → RunState → Type 0) → Type 0
@@ -41,11 +41,11 @@ pub record IsCarriedOut (keyed : Bool) (old new : Engine) (file file' out out' :
   pub status : new.status ≡ option_or answer old.status
   pub emptied : new.held.items ≡ []
 
--- the line was not carried out, and nothing is written of it; or it was, and a beginning of its reply is written
+-- the line was not carried out, and nothing is written of it, and it says `pull` if a reader failed; or it was, and a beginning of its reply is written
 abbrev pub IsCutShort : Bool → List (List ℕ) → List (List ℕ) → Followed → Option (List ℕ) → Option (List ℕ) → Option (List ℕ) → Option (List ℕ) → RunState → List ℕ → RunFault → Type 0
 IsCutShort keyed names names' follow file file' out out' before line WriteFailed =
     (after : RunState) × (reply : List ℕ) × (answer : Option Status) × IsReply keyed before line after reply answer × (file' ≡ after.left) × ((n : ℕ) × Appends out out' (take n reply))
-IsCutShort keyed names names' follow file file' out out' before line fault = ReadsPart names names' follow file file' (fault ≡ TooMuch) × Keeps out out'
+IsCutShort keyed names names' follow file file' out out' before line fault = ReadsPart names names' follow file file' (fault ≡ TooMuch) × Keeps out out' × (fault ≡ ReadFailed → SaysPull keyed line)
 
 -- The bytes were taken in: their lines are carried out, and the replies are written; what stands behind the last byte 10 is held.
 pub record IsUnderWay (keyed : Bool) (start : RunState) (before : Option (List ℕ)) (engine : Engine) (left after : Option (List ℕ)) (bytes : List ℕ) : Type 0 where
@@ -64,7 +64,7 @@ pub record IsUnderWay (keyed : Bool) (start : RunState) (before : Option (List �
 -- some first lines of the bytes, behind which this is left, were carried out when the fault came
 abbrev pub IsCutOff : Bool → RunState → Option (List ℕ) → Option (List ℕ) → Option (List ℕ) → Option (List ℕ) → List ℕ → RunFault → Type 0
 IsCutOff keyed start before left after behind bytes fault =
-    ((lines : List (List ℕ)) × AreRead bytes behind lines × AreCarriedOut keyed start lines left (IsWritten fault before after))
+    ((lines : List (List ℕ)) × AreRead keyed fault bytes behind lines × AreCarriedOut keyed start lines left (IsWritten fault before after))
     × (fault ≡ TooMuch → IsReadTooFar start.left left)
 
 -- all lines of the bytes are carried out, with the status of the last answer

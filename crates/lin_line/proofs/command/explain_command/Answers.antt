@@ -14,11 +14,13 @@ returns c =
     let l0 = c.in_ok-arg.ensures.globals ∙ ap₂ (λ a b. a || b) begun_local c.file_argument.ensures.local in
     let a1 = c.in_ok-arg-2.ensures.shape c.key_option.ensures.local.1 ∙ ap₂ with_rule a0 c.key_option.ensures.rule in
     let l1 = c.in_ok-arg-2.ensures.globals ∙ ap₂ (λ a b. a || b) l0 c.key_option.ensures.local.1 in
-    let a2 = c.in_ok-arg-3.ensures.shape c.order_flag.ensures.local.1 ∙ ap₂ with_rule a1 c.order_flag.ensures.rule in
-    let l2 = c.in_ok-arg-3.ensures.globals ∙ ap₂ (λ a b. a || b) l1 c.order_flag.ensures.local.1 in
-    let a3 = c.in_ok-command.ensures.shape c.format_option.ensures.local.1 ∙ ap₂ with_rule a2 c.format_option.ensures.rule in
-    let l3 = c.in_ok-command.ensures.globals ∙ ap₂ (λ a b. a || b) l2 c.format_option.ensures.local.1 in
+    let a2 = c.in_ok-arg-3.ensures.shape c.all_keys_flag.ensures.local.1 ∙ ap₂ with_rule a1 c.all_keys_flag.ensures.rule in
+    let l2 = c.in_ok-arg-3.ensures.globals ∙ ap₂ (λ a b. a || b) l1 c.all_keys_flag.ensures.local.1 in
+    let a3 = c.in_ok-arg-4.ensures.shape c.order_flag.ensures.local.1 ∙ ap₂ with_rule a2 c.order_flag.ensures.rule in
+    let l3 = c.in_ok-arg-4.ensures.globals ∙ ap₂ (λ a b. a || b) l2 c.order_flag.ensures.local.1 in
+    let a4 = c.in_ok-command.ensures.shape c.format_option.ensures.local.1 ∙ ap₂ with_rule a3 c.format_option.ensures.rule in
+    let l4 = c.in_ok-command.ensures.globals ∙ ap₂ (λ a b. a || b) l3 c.format_option.ensures.local.1 in
     record {
-      app = IfOk-weaker c.with_report_options.result _ _ (λ command h. h ∙ ap (with_report_options (Names c.args.kinds)) a3) c.with_report_options.ensures.app;
-      local = IfOk-weaker c.with_report_options.result _ _ (λ command h. h ∙ l3) c.with_report_options.ensures.local;
+      app = IfOk-weaker c.with_report_options.result _ _ (λ command h. h ∙ ap (with_report_options (Names c.args.kinds)) a4) c.with_report_options.ensures.app;
+      local = IfOk-weaker c.with_report_options.result _ _ (λ command h. h ∙ l4) c.with_report_options.ensures.local;
     }

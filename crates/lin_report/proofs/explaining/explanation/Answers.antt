@@ -1,10 +1,9 @@
-use Rattle.std.proofs.Common.{◌≡◌, ◌*◌, ◌∙◌, None, ap, length, option_map, subst, sym}
+use Rattle.std.proofs.Common.{◌≡◌, ◌*◌, ◌∙◌, ap, length, option_map, subst, sym}
 use Rattle.lin_answers.specs.Answers.{IsAnswer, verdict_of}
 use Rattle.lin_answers.specs.Edits.{Present}
 use Rattle.lin_explain.specs.Explained.{Explains, scope_of}
 use Rattle.lin_session.specs.Sessions.{Standing}
 use Rattle.lin_report.specs.Explanations.{IsBeside, explanation_text}
-use Rattle.lin_report.specs.declared.formats.Format.TheVariants.{Text}
 use Rattle.lin_report.proofs.Besides.{settled_behind}
 use Rattle.lin_report.proofs.Questions.{question_alone, question_beside, question_told}
 use Rattle.lin_report.proofs.explaining.explanation.Goals as goal
@@ -16,6 +15,7 @@ returns-clause-explained c =
     let lines = c.in_ok-told.told.lines.items in
     let parts = c.in_ok-told.told.parts in
     let beside = c.in_ok-beside.beside in
+    let places = option_map (λ p. p.now) c.args.places in
     let first = c.order.ensures.present in
     let mid = c.beside_of.ensures.present ∙ first in
     let now : c.told_of.new.session.present ≡ c.args.session.now.present = ap (λ (s : Standing). s.present) c.told_of.ensures.same ∙ mid in
@@ -26,10 +26,10 @@ returns-clause-explained c =
       parts = parts;
       beside = beside;
       is_answer = subst (λ scope. IsAnswer c.args.session.now.present scope answer) (sym c.requires) c.in_ok-answer.ensures.answer;
-      explained = subst (λ now. Explains names now c.args.asked None answer lines parts) mid c.in_ok-told.ensures.told;
-      is_beside = subst (λ now. IsBeside names now c.args.asked None (verdict_of answer) beside) first c.in_ok-beside.ensures.beside;
-      says = c.in_ok-answered.ensures.0 ∙ ap (λ n. explanation_text names Text n (verdict_of answer) lines parts (option_map (λ b. b.now) c.as_ref-also.result)) count
-          ∙ ap (λ b. explanation_text names Text (length c.args.session.now.present.history) (verdict_of answer) lines parts b) c.as_ref-also.ensures.value;
+      explained = subst (λ now. Explains names now c.args.asked places answer lines parts) mid c.in_ok-told.ensures.told;
+      is_beside = subst (λ now. IsBeside names now c.args.asked places (verdict_of answer) beside) first c.in_ok-beside.ensures.beside;
+      says = c.in_ok-answered.ensures.0 ∙ ap (λ n. explanation_text names c.args.format n (verdict_of answer) lines parts (option_map (λ b. b.now) c.as_ref-also.result)) count
+          ∙ ap (λ b. explanation_text names c.args.format (length c.args.session.now.present.history) (verdict_of answer) lines parts b) c.as_ref-also.ensures.value;
       status_is = c.in_ok-answered.ensures.1;
     }
 
@@ -46,7 +46,7 @@ told_of-requires c =
     (subst (λ scope. IsAnswer c.args.session.now.present scope answer) (sym c.requires) c.in_ok-answer.ensures.answer)
 
 pub returns-in_err-answer-clause-question : goal.returns-in_err-answer-clause-question
-returns-in_err-answer-clause-question c = question_alone c.args.scope (12 * length c.args.session.now.present.history) c.args.session.now c.order.new.self c.order.ensures.question
+returns-in_err-answer-clause-question c = question_alone c.args.scope (13 * length c.args.session.now.present.history) c.args.session.now c.order.new.self c.order.ensures.question
 
 pub returns-in_err-beside-clause-question : goal.returns-in_err-beside-clause-question
 returns-in_err-beside-clause-question c =

@@ -17,6 +17,7 @@ returns c =
       n,
       refuted_no c.refutations_exclude_orders.ensures c.beginnings_are_well_formed.ensures c.parts_keep_operations.ensures.well_formed c.parts_keep_orders.ensures.linearizable
           now c.args.key n sets c.requires.well_formed c.requires.within c.requires.before refutes,
+      (sets, refutes),
       c.in_ok-refuted_line.ensures,
       refl,
     )

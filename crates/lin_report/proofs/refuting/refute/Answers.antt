@@ -1,4 +1,5 @@
 use Rattle.std.proofs.Common.{inl, inr, subst, sym, ◌∙◌}
+use Rattle.std.proofs.lemmas.Result.{IfOk-weaker}
 use Rattle.lin_events.specs.WellFormed.{IsWellFormed}
 use Rattle.lin_objects.specs.Kinds.{functions_of}
 use Rattle.lin_answers.specs.declared.answers.Answer.TheVariants.{No}
@@ -6,7 +7,7 @@ use Rattle.lin_answers.specs.declared.answers.Scope.TheVariants.{Object}
 use Rattle.lin_answers.specs.Answers.{kinds_in}
 use Rattle.lin_answers.specs.Edits.{Present}
 use Rattle.lin_report.specs.Runs.{IsRefuteReply}
-use Rattle.lin_report.proofs.Answered.{if_ok, never_no}
+use Rattle.lin_report.proofs.Answered.{never_no}
 use Rattle.lin_answers.specs.Answers.{verdict_of}
 use Rattle.lin_report.proofs.refuting.refute.Goals as goal
 
@@ -37,5 +38,5 @@ returns-in-Ok-Not c =
     let found = c.in-Ok-Not.answer in
     let told = rw c.in-Ok-Not.field-0-is at c.in-Ok-Not.ensures.refuted in
     let verdict = c.answers_are_verdicts.ensures now (Object c.args.key) found told.0 in
-    if_ok c.answered.result (λ reply is names keyed. (c.refute.ensures.present, inr (inl (verdict_of found, verdict, never_no found told.1, is.0, is.1))))
+    IfOk-weaker c.answered.result _ _ (λ reply is names keyed. (c.refute.ensures.present, inr (inl (verdict_of found, verdict, never_no found told.1, is.0, is.1))))
     (rw c.verdict_of.ensures at c.answered.ensures)

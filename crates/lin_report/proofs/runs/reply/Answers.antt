@@ -1,7 +1,7 @@
 use Rattle.std.proofs.Common.{None, Some, Ok, Err, ap, sym, ◌∙◌}
 use Rattle.lin_report.specs.Runs.{AreMore}
 use Rattle.lin_report.specs.declared.commands.Command.TheVariants.{Pull}
-use Rattle.lin_report.proofs.Replying.{IsReadBy, command_said, nothing_said, plainly_said, refused_said, stands_there}
+use Rattle.lin_report.proofs.Replying.{IsReadBy, command_said, nothing_said, plainly_said, refused_said, says, stands_there}
 use Rattle.lin_report.proofs.Pulling.{more_on, seen_on}
 use Rattle.lin_report.proofs.runs.reply.Goals as goal
 
@@ -47,3 +47,8 @@ returns-in_err-reply_to_pull-in-Ok-Some-Pull-clause-reads g c =
       reads.2,
       λ is bytes put seen. reads.3 (ap Err (sym (rw is at c.from_residual.ensures.1))) bytes put (seen_on _ _ _ bytes put more seen),
     )
+
+pub returns-in_err-reply_to_pull-in-Ok-Some-Pull-clause-pulls : goal.returns-in_err-reply_to_pull-in-Ok-Some-Pull-clause-pulls
+returns-in_err-reply_to_pull-in-Ok-Some-Pull-clause-pulls g c = λ failed line is.
+    let read : IsReadBy c.args.keyed c.read_command-said.new.names c.args.held.now (Ok (Some Pull)) = rw (c.in-Ok-Some-Pull.field-0-is, c.in-Ok-Some-Pull.field-0-0-is) at c.in-Ok-Some-Pull.ensures.read in
+    (c.read_command-said.new.names, says c.args.keyed c.args.held.now line is c.read_command-said.new.names (Ok (Some Pull)) (λ e. cc) read)

@@ -1,4 +1,6 @@
-use Rattle.std.proofs.Common.{Err, length, ap, sym, ◌∙◌}
+use Rattle.std.proofs.Common.{Err, length, ap, subst, sym, ◌∙◌}
+use Rattle.lin_formats.specs.Devices.{device_of}
+use Rattle.lin_report.specs.Pulls.{StandsAt}
 use Rattle.lin_report.specs.Runs.{pull_text}
 use Rattle.lin_report.proofs.runs.reply_to_pull.Goals as goal
 
@@ -9,9 +11,10 @@ returns-in_err-refused-clause-reads g c =
 
 pub returns-clause-reply : goal.returns-clause-reply
 returns-clause-reply g c = λ keyed before stands.
-    let p = c.in_ok-refused.ensures.pulled keyed before stands in (
+    let p = c.in_ok-refused.ensures.pulled keyed before stands in
+    let left = ap (λ f. g.R.Read.remaining (device_of f)) c.keep_refusal.ensures in (
       p.0,
-      p.1,
+      subst (StandsAt keyed p.0 c.pull.new.session.present c.pull.new.names c.pull.new.follow) (sym left) p.1,
       (
         c.in_ok-refused.refused,
         p.2,

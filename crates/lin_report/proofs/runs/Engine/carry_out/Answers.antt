@@ -27,4 +27,4 @@ pub returns-in_err-reply-clause-cut : goal.returns-in_err-reply-clause-cut
 returns-in_err-reply-clause-cut g c = passed_on c.from_residual.result c.in_err-reply.field-0.0 _ c.from_residual.ensures.1
     (λ before line stands holds.
     let reads = c.in_err-reply.ensures.reads in
-    cut_unwritten c.args.keyed _ _ _ _ _ _ before line c.in_err-reply.field-0.0 (λ e. c.in_err-reply.ensures.readers (ap Err e)) (reads.0, reads.1, reads.2, λ e. reads.3 (ap Err e)))
+    cut_unwritten c.args.keyed _ _ _ _ _ _ before line c.in_err-reply.field-0.0 (λ e. c.in_err-reply.ensures.readers (ap Err e)) (λ e. c.in_err-reply.ensures.pulls (ap Err e) line (c.as_slice.ensures.value ∙ holds)) (reads.0, reads.1, reads.2, λ e. reads.3 (ap Err e)))

@@ -2,7 +2,7 @@ use Rattle.std.proofs.Common.{◌++◌, [], List, ℕ, take, inr, refl, ◌∙�
 use Rattle.std.proofs.lemmas.List.{length-take-le}
 use Rattle.std.proofs.KnownBytes.{Consumes-kept, Consumes-nil, Consumes-trans}
 use Rattle.lin_formats.specs.lemmas.Reading.{consumed_end, longer}
-use Rattle.lin_report.proofs.UnderWay.{not_too_much, run_cut, run_ends, stopped}
+use Rattle.lin_report.proofs.UnderWay.{not_too_much, run_cut, run_ends, stopped, unread_further}
 use Rattle.lin_report.proofs.runs.Engine.carry_out_all.Goals as goal
 
 pub pieces-init : goal.pieces-init
@@ -22,7 +22,7 @@ pieces-init g c = record {
 pub returns-in_default-clause-ran : goal.returns-in_default-clause-ran
 returns-in_default-clause-ran g c =
     let v = c.pieces.invariant in
-    let st = stopped _ _ _ c.pieces.self _ _ (g.C.Read.remaining (c.read.new.self).inner) v.bytes [] v.under_way in
+    let st = unread_further _ _ _ c.pieces.self _ _ (g.C.Read.remaining (c.read.new.self).inner) v.bytes v.under_way in
     ((v.bytes ++ [], Consumes-kept _ _ _ (v.bytes ++ []) (Consumes-trans _ _ _ v.bytes [] v.consumed (Consumes-nil _)) c.in_default.ensures.bytes, st.0, st.1, st.2), λ e. absurd (not_too_much e))
 
 pub returns-then-count-eq0-clause-ran : goal.returns-then-count-eq0-clause-ran
