@@ -32,7 +32,7 @@ see_layout() {
 
 see_program() { # a program, for all that runs one
     export LINCHECK=$1
-    for script in versions.py rows.py readme.sh generated.sh edits.py drawn.py items.py recordings.py explain.py refutations.py pictures.py progress.py growths.py memory.py adapters.py adapters_clojure.py static.sh; do
+    for script in versions.py rows.py readme.sh watch.sh generated.sh edits.py drawn.py items.py recordings.py explain.py refutations.py pictures.py progress.py growths.py memory.py adapters.py adapters_clojure.py static.sh; do
         run "tests/$script"
     done
 }
@@ -48,7 +48,7 @@ see_library() { # the library for C, over the crates that were proved here
 
 see_all() {
     see_layout
-    for script in imports.py crates.py closure.py ledger.py; do run "tests/$script"; done
+    for script in imports.py crates.py closure.py named.py ledger.py examples.py; do run "tests/$script"; done
     if built/fits.sh source program; then
         see_program "$PWD/built/lincheck"
     else
@@ -90,17 +90,20 @@ RT_JOBS=${RT_JOBS:-$checks} rt ci $anew | tee -a "$room/proofs" "$log"
 [ "${PIPESTATUS[0]}" = 0 ] || exit 1
 
 echo '== built/lincheck'
-if ! built/fits.sh kit; then
-    echo 'so it need not have the same bytes, and is not compared; what was seen of it is seen of the one that was built here'
-    see_program "$PWD/crates/lincheck/out/lincheck"
-elif cmp built/lincheck crates/lincheck/out/lincheck; then
+made=$PWD/crates/lincheck/out/lincheck
+built/fits.sh kit
+if cmp built/lincheck "$made"; then
     echo '1 passed, 0 failed' | tee -a "$log"
     run tests/static.sh
-    LINCHECK=$PWD/crates/lincheck/out/lincheck see_library
-else
+elif [ "$(sed -n 's/^kit //p' built/OF)" = "$(rt version)" ]; then
     echo 'built/lincheck is not what this source makes: ./build.py --renew puts that there'
     exit 1
+else
+    # (a kit of the same logic proves the same, and may still compile it otherwise)
+    echo 'another kit made it, so it need not have the same bytes; what was seen of it is seen of the one that was built here'
+    see_program "$made"
 fi
+LINCHECK=$made see_library
 echo '== tests/must_fail.py'
 tail -n +1 -f --pid="$edits" "$room/tried" | tee -a "$log"
 wait "$edits" || exit 1

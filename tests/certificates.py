@@ -289,6 +289,25 @@ def is_counted(ops, name):
     return sum(op.how == 'ok' and op.does(name) for op in ops) > len(puts(ops, OTHER[name])) + (name == 'acquire')
 
 
+def made_within(ops, name, start, stop):
+    """Those of the name that surely took effect between the events: called at the first or behind it, and back before the second."""
+    return [op for op in ops if op.how == 'ok' and op.does(name) and start <= op.at and op.end < stop]
+
+
+def may_be_within(ops, name, start, stop):
+    return [op for op in puts(ops, name) if op.at < stop and not (op.how == 'ok' and op.end < start)]
+
+
+def failed_within(ops, name, start, stop):
+    return [op for op in ops if op.how == 'failed' and op.does(name) and op.at < stop and start <= op.end]
+
+
+def is_within(ops, name, start, stop):
+    """A lock is held and free in turn, and free in the beginning."""
+    spare = 0 if name == 'release' and start == ops[0].at else 1
+    return len(made_within(ops, name, start, stop)) > len(may_be_within(ops, OTHER[name], start, stop)) + spare
+
+
 def is_misshapen(kind, op):
     """Whether it is a read of a set that gave a value, or one of a register that gave members."""
     return op.read() is not None if kind in ('register', 'cas-register') else kind == 'set' and op.how == 'ok' and op.does('read') and op.read() is None
@@ -440,6 +459,11 @@ class Lines:
         did = [op for op in self.ops if op.how == 'ok' and op.does(name)]
         self.sides('why: %sd %%s and %sd at most %%s' % (name, OTHER[name]), did, puts(self.ops, OTHER[name]), self.failed_to(OTHER[name]))
 
+    def within(self, name, start, stop):
+        some = [those(self.ops, of, start, stop)[::-1]
+                for those, of in ((made_within, name), (may_be_within, OTHER[name]), (failed_within, OTHER[name]))]
+        self.sides('why: %sd %%s from %s to %s, and %sd at most %%s' % (name, self.spot(start), self.spot(stop - 1), OTHER[name]), *some)
+
 
 def held_of_register(ops, failing):
     backwards = ops[::-1]
@@ -489,6 +513,11 @@ def held_of_mutex(ops):
     backwards = ops[::-1]
     yield from (('twice', (j, i)) for j in backwards for i in backwards if is_twice(ops, j.call.name, i, j))
     yield from (('counted', (name,)) for name in OTHER if is_counted(ops, name))
+    # stretches that begin and end with what was made too often: the last one to end, and of these the shortest
+    for name in OTHER:
+        made = [op for op in ops if op.how == 'ok' and op.does(name)]
+        stops, starts = sorted((op.end + 1 for op in made), reverse=True), sorted({op.at for op in made + ops[:1]}, reverse=True)
+        yield from (('within', (name, start, stop)) for stop in stops for start in starts if is_within(ops, name, start, stop))
 
 
 def certificates(kind, ops, failing=None):

@@ -8,11 +8,13 @@ definition of its file, or as one that is imported there, counts as that.
 
 docs/PROOF.md lists the files of the definitions so found, each as `CRATE/specs/FILE.antt` with the number of their lines, comments in
 front of a definition counted, and last the numbers of files and lines. Its list is what stands between the two lines of MARKS. Between those
-of MARKS_OF_WORK stands the same of what the bound on work stands on beside (the contracts of ROOTS_OF_WORK).
+of MARKS_OF_WORK stands the same of what the bound on work stands on beside (the contracts of ROOTS_OF_WORK). Between those of
+MARKS_BY_COMMAND stands what the user of each command has to believe: how many lines of definitions, in how many files and in which rows of the
+list, and how many of these lines the user of other commands (BEYOND) hasn't.
 
-usage: tests/closure.py [--write | --names | --by-command | --of NAME]
---write puts the numbers into the list, --names prints the definitions, --by-command how many lines each command stands on, which the list has
-too, between those of MARKS_BY_COMMAND, and --of what one definition stands on. The last line counts the files that agree and those that don't.
+usage: tests/closure.py [--write | --names | --by-command [COMMAND] | --of NAME]
+--write puts the numbers into the lists and the table, --names prints the definitions, --by-command the table, or the definitions of that command,
+and --of what one definition stands on. The last line counts the files and the rows of the table that agree, and what doesn't.
 """
 import dataclasses
 import functools
@@ -26,13 +28,22 @@ MARKS = ("<!-- what tests/closure.py finds: -->", "<!-- to here -->")
 MARKS_OF_WORK = ("<!-- what it finds beside, of work: -->", "<!-- to here, of work -->")
 MARKS_BY_COMMAND = ("<!-- what it finds by command: -->", "<!-- to here, by command -->")
 # What the program promises of each command's runs, and of how it reads its words and ends.
+WORDS = "any of these, from the words of the command line to the exit status"
 COMMANDS = {
     "`check`": {"lin_report": ["check"]},
     "`verify`": {"lin_formats": ["verify"]},
-    "`draw`": {"lin_report": ["draw"]},
     "`explain`": {"lin_report": ["explain"]},
+    "`draw`": {"lin_report": ["draw"]},
     "`edit`": {"lin_report": ["run"]},
-    "any of them, from the words of its line to its status": {"lin_program": ["run_words", "end_without_words"]},
+    WORDS: {"lin_program": ["run_words", "end_without_words"]},
+}
+# Beside which others a command is told, each as the words of a table and the commands that they name.
+BEYOND = {
+    "`verify`": [("`check`", ["`check`"])],
+    "`explain`": [("`check`", ["`check`"])],
+    "`draw`": [("`check`", ["`check`"])],
+    "`edit`": [("`check` and `verify`", ["`check`", "`verify`"]), ("these and `explain`", ["`check`", "`verify`", "`explain`"])],
+    WORDS: [("all of these", ["`check`", "`verify`", "`explain`", "`draw`", "`edit`"])],
 }
 # What a question may take, and what an edit leaves.
 ROOTS_OF_WORK = {"lin_session": ["Session::ask", "Session::apply"]}
@@ -182,6 +193,7 @@ class Source(File):
                 yield owner, said
 
 
+@functools.cache
 def source_of(crate, name, kind=r"(?:struct|enum)"):
     """The file of code that has the item; that of a method is the one that has its type."""
     type_, _, _ = name.rpartition("::")
@@ -247,21 +259,41 @@ def lines_by_file(found):
     return counts
 
 
+def count_of(keys):
+    """How many lines these definitions have."""
+    return sum(len(specs()[module].definitions[name].lines) for module, name in keys)
+
+
 def found_for_all():
     """What the promises of all commands stand on."""
     return closure([it for roots_ in COMMANDS.values() for it in roots(roots_)])
 
 
+@functools.cache
+def of_command(name):
+    found, _ = closure(roots(COMMANDS[name]))
+    return found
+
+
+def rows_of(paths):
+    """The rows of the list in which these files stand, as `1 to 4, 7`."""
+    rows = [int(number) for number, row in re.findall(r"^\| (\d+) \|(.*)$", between(MARKS)[1], re.M) if set(re.findall(r"`([^`]*)` \(", row)) & set(paths)]
+    starts = [it for it in rows if it - 1 not in rows]
+    ends = [it for it in rows if it + 1 not in rows]
+    return ", ".join(f"{one}" if one == other else f"{one} to {other}" if one + 1 < other else f"{one}, {other}" for one, other in zip(starts, ends))
+
+
 def by_command():
-    """The rows of a table of how many lines each command stands on, and how many that those above it don't."""
-    yield "| A user of | believes | that no row above has |"
-    yield "|---|---|---|"
-    seen = set()
-    for command, of in COMMANDS.items():
-        found, _ = closure(roots(of))
-        counts, more = lines_by_file(found), lines_by_file({key: it for key, it in found.items() if key not in seen})
-        yield "| %s | %s lines in %d files | %s |" % (command, f"{sum(counts.values()):,}", len(counts), f"{sum(more.values()):,}")
-        seen |= set(found)
+    """The lines of a table of how much each command stands on, and how much more than others."""
+    yield "| A user of | believes | in rows of the list | of these, beyond |"
+    yield "|---|---|---|---|"
+    for command in COMMANDS:
+        found = of_command(command)
+        counts, beyond = lines_by_file(found), []
+        for words, others in BEYOND.get(command, []):
+            known = {key for it in others for key in of_command(it)}
+            beyond.append(f"{words}: {count_of(found.keys() - known):,}")
+        yield "| %s | %s lines in %d files | %s | %s |" % (command, f"{count_of(found):,}", len(counts), rows_of(counts), "; ".join(beyond))
 
 
 def told_of_work(found, types):
@@ -317,7 +349,11 @@ def main():
         show(*closure(starts))
         return 0
     if sys.argv[1:2] == ["--by-command"]:
-        print(*by_command(), sep="\n")
+        if sys.argv[2:]:
+            name = WORDS if sys.argv[2] == "words" else f"`{sys.argv[2]}`"
+            show(*closure(roots(COMMANDS.get(name) or sys.exit(f"closure.py: there is no command {sys.argv[2]}"))))
+        else:
+            print(*by_command(), sep="\n")
         return 0
     found, types = found_for_all()
     if sys.argv[1:2] == ["--names"]:
@@ -331,12 +367,14 @@ def main():
         print(sentence)
         agreeing, differing = hold(marks, sentence, counts, is_written)
         passed, faults = passed + agreeing, faults + differing
-    table = "\n\n%s\n\n" % "\n".join(by_command())
-    before, list_, behind = between(MARKS_BY_COMMAND)
+    table = list(by_command())
+    before, listed, behind = between(MARKS_BY_COMMAND)
     if is_written:
-        write(before + table + behind)
-    elif list_ != table:
-        faults.append("--by-command prints another table")
+        listed = "\n\n%s\n\n" % "\n".join(table)
+        write(before + listed + behind)
+    listed = listed.split("\n")[2:-2]
+    passed += sum(one == other for one, other in zip(table, listed))
+    faults += [f"by command: {it}" for it in table if it not in listed] + [f"too many: {it}" for it in listed if it not in table]
     print(*faults, sep="\n", end="\n" if faults else "")
     print(f"{passed} passed, {len(faults)} failed")
     return 1 if faults else 0

@@ -4,9 +4,10 @@ import json
 import re
 
 from certificates import (
-    MOST_LISTED, NOUNS, OTHER, certificates, event_words, is_counted, is_crossed, is_inside, is_late, is_lost, is_overwriting,
-    is_overwritten, is_passed, is_preceded, is_remaining, is_spent, is_split, is_taken, is_twice, is_unadded, is_unwritten, items_words, may_take_ahead,
-    operations_of, others_that_leave, put_before, puts, rank, reply_words, spenders, state_words, tails, taken_before, taken_by, those_that_leave, times, value_words, wanted_form)
+    MOST_LISTED, NOUNS, OTHER, certificates, event_words, failed_within, is_counted, is_crossed, is_inside, is_late, is_lost, is_overwriting,
+    is_overwritten, is_passed, is_preceded, is_remaining, is_spent, is_split, is_taken, is_twice, is_unadded, is_unwritten, is_within, items_words,
+    made_within, may_be_within, may_take_ahead, operations_of, others_that_leave, put_before, puts, rank, reply_words, spenders, state_words, tails,
+    taken_before, taken_by, those_that_leave, times, value_words, wanted_form)
 from edits import NAMES
 
 NUMBER, INTEGER = r'(?:0|[1-9]\d*)', r'(?:0|-?[1-9]\d*)'
@@ -278,7 +279,8 @@ class Judge:
                 (r'two reads exclude each other', 'split', self.split),
                 (r'(\S+) was in before (\S+) was added', 'late', self.late),
                 (r'(acquire|release)d twice', 'twice', self.twice),
-                (r'(acquire|release)d (\d+ times?) and (acquire|release)d at most (\d+ times?)', 'counted', self.counted)]:
+                (r'(acquire|release)d (\d+ times?) and (acquire|release)d at most (\d+ times?)', 'counted', self.counted),
+                (r'(acquire|release)d (\d+ times?) from (.+) to (.+), and (acquire|release)d at most (\d+ times?)', 'within', self.within)]:
             parts = re.fullmatch(form, why)
             if parts:
                 if not judge(told, kind, ops, *parts.groups()):
@@ -424,6 +426,16 @@ class Judge:
         self.listed(told, can, 'called')
         self.listed(told, [o for o in ops if o.how == 'failed' and o.does(OTHER[name])], 'failed')
         return kind == 'mutex' and other == OTHER[name] and is_counted(ops, name) and (did, most) == (times(len(done)), times(len(can)))
+
+    def within(self, told, kind, ops, name, did, first, last, other, most):
+        places = {self.spot(at): at for op in ops for at in (op.at, op.end) if at is not None}
+        if first not in places or last not in places:
+            raise Wrong('no events of the object stand there: %s, %s' % (first, last))
+        start, stop = places[first], places[last] + 1
+        made, may, failed = made_within(ops, name, start, stop), may_be_within(ops, OTHER[name], start, stop), failed_within(ops, OTHER[name], start, stop)
+        for some, verb in ((made, 'returned'), (may, 'called'), (failed, 'failed')):
+            self.last_ones(told, some[::-1], verb)
+        return kind == 'mutex' and other == OTHER[name] and is_within(ops, name, start, stop) and (did, most) == (times(len(made)), times(len(may)))
 
     # answers
 

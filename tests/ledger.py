@@ -212,6 +212,8 @@ def try_keys(toy, right):
     right('a new file below changes both keys', changed(before, toy.keys()) == BOTH)
     os.remove(toy.root + '/crates/low/src/more.rt')
     right("the kit's line changes both keys", changed(before, toy.keys(('kit 2', PROVER[1]))) == BOTH)
+    for line, is_one in (must_fail.KIT, True), (must_fail.KIT.replace('kit-', 'kit-9'), True), (must_fail.KIT + '0', False), ('', False):
+        right('%s is in keys as the kit that they know: %s' % (line or 'no line', is_one), (must_fail.in_keys(line) == must_fail.KIT) == is_one)
     right("the prover's sum changes both keys", changed(before, toy.keys((PROVER[0], 'sum 2'))) == BOTH)
     file = trials.__file__
     with open(file, encoding='utf-8') as it:
