@@ -65,7 +65,8 @@ seen 'events 3: ill-formed at 2 cause 4 NoInvocation'
 printf '{:a 1}\n' >> "$file"
 ends 'a history that gets ill-formed, and a map that is no event' 4 "events 2: yes
 events 3: ill-formed at 2 cause 4 NoInvocation
-$("$LINCHECK" check "$file")"
+refused input event 3 Missing at 120
+lincheck: $file: refused input event 3 Missing at 120"
 
 begin "${write//write/enqueue}" 0 --kind fifo
 ends 'a queue' 0 'events 2: yes'
