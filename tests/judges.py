@@ -530,6 +530,22 @@ class Judge:
             ('fewer clients at once', len(ops) - crashed >= 2)] if holds]
         if helps:
             told.want('what may help: ' + '; '.join(helps))
+        self.certain(told, key)
+
+    def certain(self, told, key):
+        """The certificate of all events of an object that is undecided: it is told where one holds, and then the object has no legal order.
+
+        Only of a lock's calls between two places the one that ends with the events is looked for."""
+        kind, ops = self.model.kinds(key), operations_of(self.events, len(self.events), key)
+        if told.peek() == 'not linearizable all the same:':
+            told.take()
+            form = Judge.certificate(self, told, kind, ops)
+            if form is None:
+                raise Wrong('no certificate is told')
+            self.facts['why'] = {'name': form, 'calls': sorted(op.at for op in self.named)}
+            self.counts['certificates of what is undecided'] += 1
+        elif any(form != 'within' for form, _ in certificates(kind, ops)):
+            raise Wrong('a certificate holds, and none is told')
 
     def ill_formed(self, told, at, cause):
         event = self.events[at]
@@ -595,7 +611,7 @@ class Judge:
 
     def machine(self, lines):
         """The line for machines, of an explanation that was judged."""
-        return compact({**head(lines[0], 'failed' in self.facts), 'events': len(self.events), **self.facts, 'text': '\n'.join(lines)})
+        return compact({**head(lines[0], 'failed' in self.facts or 'why' in self.facts), 'events': len(self.events), **self.facts, 'text': '\n'.join(lines)})
 
 
 # the forms for machines
