@@ -2,8 +2,10 @@
 # Follows a history while it is written: a line whenever the answer changes, with the number of events, and at a no the reason. It ends there, where
 # the file is refused, and where no event has come for SECONDS_IDLE (else 60), with the status of the last answer, as `lincheck check` does.
 # usage: examples/watch.sh FILE [SECONDS_IDLE [OPTION ..]]    (OPTION: one of `lincheck edit`, as --kind fifo; LINCHECK in the environment: its command)
-coproc "${LINCHECK:-${0%/*}/../lincheck}" edit "${@:3}" -- "$1"
+# (it begins with a line, since Bash forgets the pipes of a coprocess that has ended)
+coproc { read -r; exec "${LINCHECK:-${0%/*}/../lincheck}" edit "${@:3}" -- "$1"; }
 exec 3<&"${COPROC[0]}"- 4>&"${COPROC[1]}"-
+echo >&4
 trap '' PIPE
 say() { { echo "$1" >&4; } 2> /dev/null && IFS= read -r reply <&3; } # a command; reply is the first line of what it replies
 events='' answer=''
