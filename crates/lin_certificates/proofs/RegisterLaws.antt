@@ -21,7 +21,7 @@ use Rattle.lin_failures.specs.lemmas.Conflicting.{found}
 use Rattle.lin_failures.specs.lemmas.Overwriting.{NoneAhead, Seat, UpdatesAt, another, one_value, seat, updates_at}
 use Rattle.lin_certificates.specs.Words.{Gives, Needs, Returned}
 use Rattle.lin_certificates.specs.Certificates.{AreCrossed, CanLeave, HasSource, IsLeftOnce, IsOverwritten, IsUnwritten, Overwrites, Touched, Touches}
-use Rattle.lin_certificates.specs.declared.words.Sort.TheVariants as Sorted
+use Rattle.lin_certificates.specs.declared.words.ReadSort.TheVariants as Sorted
 use Rattle.lin_certificates.proofs.Numbers.{the_one}
 use Rattle.lin_failures.specs.lemmas.Standing.{At, not_failed, ok_there, one_place, stands_ahead, step_there}
 

@@ -18,7 +18,7 @@ use Rattle.lin_failures.specs.SetConflicts.{FoundAt, HadAt}
 use Rattle.lin_failures.specs.lemmas.SetConflicting.{ahead_of, apart, lost, unadded}
 use Rattle.lin_certificates.specs.Words.{Gives, Returned}
 use Rattle.lin_certificates.specs.Certificates.{AreSplit, Had, IsLate, IsLost, IsUnadded, Told}
-use Rattle.lin_certificates.specs.declared.words.Sort.TheVariants as Sorted
+use Rattle.lin_certificates.specs.declared.words.ReadSort.TheVariants as Sorted
 use Rattle.lin_certificates.proofs.Outcomes.{not_added}
 use Rattle.lin_failures.specs.lemmas.Standing.{ok_there, step_there}
 

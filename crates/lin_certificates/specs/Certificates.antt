@@ -16,7 +16,7 @@ use Rattle.lin_failures.specs.SetConflicts.{Has, Lacks}
 use Rattle.lin_certificates.specs.Words.{AddsSome, Counts, Exactly, Gives, IsOfCalls, MayTakeAhead, Needs, Returned, Spends, StaysOpen, Updates}
 use Rattle.lin_certificates.specs.declared.words.Calls.{Calls}
 use Rattle.lin_certificates.specs.declared.words.Calls.TheVariants.{Acquires, Releases}
-use Rattle.lin_certificates.specs.declared.words.Sort.TheVariants as Sorted
+use Rattle.lin_certificates.specs.declared.words.ReadSort.TheVariants as Sorted
 use Rattle.lin_certificates.specs.declared.certificate.Certificate.{Certificate}
 use Rattle.lin_certificates.specs.declared.certificate.Certificate.TheVariants as Form
 

@@ -18,8 +18,8 @@ use Rattle.lin_certificates.specs.declared.words.Calls.{Calls}
 use Rattle.lin_certificates.specs.declared.words.Calls.TheVariants as Called
 use Rattle.lin_certificates.specs.declared.words.Answers.{Answers}
 use Rattle.lin_certificates.specs.declared.words.Answers.TheVariants as Answered
-use Rattle.lin_certificates.specs.declared.words.Sort.{Sort}
-use Rattle.lin_certificates.specs.declared.words.Sort.TheVariants as Sorted
+use Rattle.lin_certificates.specs.declared.words.ReadSort.{ReadSort}
+use Rattle.lin_certificates.specs.declared.words.ReadSort.TheVariants as Sorted
 use Rattle.lin_certificates.specs.declared.words.Which.{Which}
 use Rattle.lin_certificates.specs.declared.words.Which.TheVariants as Chosen
 
@@ -54,7 +54,7 @@ IsOfCalls Called.Acquires call = call ≡ Acquire
 IsOfCalls Called.Releases call = call ≡ Release
 
 -- the call reads, and the reply is of this sort
-abbrev pub Gives : Sort → Call → Reply → Type 0
+abbrev pub Gives : ReadSort → Call → Reply → Type 0
 Gives Sorted.Value call reply = (call ≡ Read) × ((v : Val) × (reply ≡ Replied.Value v))
 Gives Sorted.Members call reply = (call ≡ Read) × ((s : List Item) × (reply ≡ Replied.Members s))
 

@@ -9,7 +9,7 @@ use crate::operations::is_among;
 use crate::queues::{is_inside, is_passed, is_preceded, is_remaining, is_taken};
 use crate::registers::{are_crossed, is_overwritten, is_spent, is_unwritten};
 use crate::sets::{are_split, is_late, is_lost, is_unadded};
-use crate::words::{Answers, Calls, Sort, Which};
+use crate::words::{Answers, Calls, ReadSort, Which};
 use lin_events::{Event, Item, OutOfMemory, Val};
 use lin_objects::Kind;
 use lin_orders::ends_of;
@@ -130,7 +130,7 @@ fn certifies_register(events: &[Event], ends: &[Option<usize>], certificate: &Ce
             events,
             ends,
             *read,
-            &Which::Returned(Answers::Gives(Sort::Members)),
+            &Which::Returned(Answers::Gives(ReadSort::Members)),
         ),
         Certificate::Unwritten { operation, item } => {
             is_unwritten(events, ends, *operation, *item)
@@ -199,7 +199,7 @@ fn certifies_set(events: &[Event], ends: &[Option<usize>], certificate: &Certifi
             events,
             ends,
             *read,
-            &Which::Returned(Answers::Gives(Sort::Value)),
+            &Which::Returned(Answers::Gives(ReadSort::Value)),
         ),
         Certificate::Unadded { read, item } => is_unadded(events, ends, *read, *item),
         Certificate::Lost {

@@ -12,4 +12,4 @@ mod words;
 
 pub use certificate::{Certificate, certificates_exclude_orders, certifies, holds};
 pub use operations::is_of_which;
-pub use words::{Answers, Calls, Sort, Which};
+pub use words::{Answers, Calls, ReadSort, Which};

@@ -28,7 +28,7 @@ pub enum Calls {
 
 /// What a read gave.
 #[derive(Clone, Copy, Debug, PartialEq, Eq)]
-pub enum Sort {
+pub enum ReadSort {
     Value,
     Members,
 }
@@ -53,7 +53,7 @@ pub enum Answers {
     /// It found a set with the first item and without the second.
     Tells(Item, Item),
     /// It read something of the sort.
-    Gives(Sort),
+    Gives(ReadSort),
 }
 
 /// Which operations. Those are named that stand apart.
@@ -233,12 +233,12 @@ fn finds_nothing(call: &Call, reply: &Reply) -> bool
 }
 
 /// Whether the call reads, and the reply is of the sort.
-fn gives(call: &Call, reply: &Reply, sort: Sort) -> bool
+fn gives(call: &Call, reply: &Reply, sort: ReadSort) -> bool
     ensures { IsTrue result ↔ Gives sort call.now reply.now }
 {
     match (call, sort, reply) {
-        (Call::Read, Sort::Value, Reply::Value(_)) => true,
-        (Call::Read, Sort::Members, Reply::Members(_)) => true,
+        (Call::Read, ReadSort::Value, Reply::Value(_)) => true,
+        (Call::Read, ReadSort::Members, Reply::Members(_)) => true,
         _ => false,
     }
 }

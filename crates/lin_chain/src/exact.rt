@@ -30,16 +30,16 @@ pub(crate) enum Taken {
 
 /// All configurations after some events, and what is needed to go on.
 #[derive(Drop)]
-pub(crate) struct Exact {
+pub(crate) struct ExactRun {
     pub(crate) object: Any,
     pub(crate) nodes: Nodes,
     pub(crate) frontier: Frontier<Any>,
     pending: Vec<Open>,
 }
 
-impl Exact {
+impl ExactRun {
     /// Before any event.
-    pub(crate) fn new(alloc: Global, kind: Kind) -> Result<Exact, OutOfMemory>
+    pub(crate) fn new(alloc: Global, kind: Kind) -> Result<ExactRun, OutOfMemory>
         ensures kind { IfOk result (λ exact. exact.object.kind ≡ kind) }
         ensures exact { IfOk result (λ exact. (h : List EventOf) → IsExact exact h 0) }
     {
@@ -47,7 +47,7 @@ impl Exact {
         let object = Any { kind };
         let mut nodes = Nodes::new(alloc);
         let frontier = Frontier::start(alloc, &object, &mut nodes)?;
-        Ok(Exact {
+        Ok(ExactRun {
             object,
             nodes,
             frontier,

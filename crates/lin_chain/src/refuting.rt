@@ -13,7 +13,7 @@ ghost use Rattle.lin_orders.specs.Configurations.{IsOver};
 ghost use Rattle.lin_orders.specs.Linearizable.{IsDeadAt, IsLinearizableAs};
 ghost use Rattle.lin_chain.specs.inner.Refuting.{AreBuilt};
 
-use crate::exact::{Exact, Taken};
+use crate::exact::{ExactRun, Taken};
 use lin_events::{Event, Meter, OutOfMemory, Reply, beginnings_are_well_formed};
 use lin_frontier::{Config, Frontier};
 use lin_objects::{Any, Kind, SeqObject, State};
@@ -24,7 +24,7 @@ use std::alloc::Global;
 /// All configurations of each beginning of some events, so far.
 #[derive(Drop)]
 pub(crate) struct Builder {
-    exact: Exact,
+    exact: ExactRun,
     sets: Vec<Vec<RefConfig>>,
 }
 
@@ -71,7 +71,7 @@ impl Builder {
         ensures kind { IfOk result (λ builder. builder.exact.object.kind ≡ kind) }
         ensures built { IfOk result (λ builder. (h : List EventOf) → AreBuilt builder h 0) }
     {
-        let exact = Exact::new(alloc, kind)?;
+        let exact = ExactRun::new(alloc, kind)?;
         let mut sets = Vec::new(alloc);
         sets.push(set_of(alloc, &exact.object, &exact.frontier)?)?;
         Ok(Builder { exact, sets })

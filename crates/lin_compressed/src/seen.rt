@@ -6,7 +6,7 @@ ghost use Rattle.lin_members.specs.Searching.{DominatesIn};
 
 use lin_events::OutOfMemory;
 use lin_frontier::{Config, Pending};
-use lin_members::{Member, Offers, Places, dominates, key};
+use lin_members::{Member, Offers, MemberPlaces, dominates, key};
 use lin_objects::SeqObject;
 use std::alloc::Global;
 use std::hash::Hash;
@@ -17,8 +17,8 @@ const FEW: usize = 32;
 /// Where the members stand that a search began with, and those that it came to.
 #[derive(Drop)]
 pub struct Seen {
-    starts: Places,
-    visited: Places,
+    starts: MemberPlaces,
+    visited: MemberPlaces,
 }
 
 /// What stands from the place on.
@@ -169,7 +169,7 @@ impl Seen {
         pending: &Pending,
         starts: &[&Member<S>],
     ) -> Result<Self, OutOfMemory> {
-        let mut places = Places::new();
+        let mut places = MemberPlaces::new();
         if starts.len() > FEW {
             for member in starts {
                 places.note(alloc, key(pending, member.config()))?;
@@ -177,7 +177,7 @@ impl Seen {
         }
         Ok(Seen {
             starts: places,
-            visited: Places::new(),
+            visited: MemberPlaces::new(),
         })
     }
 

@@ -2,7 +2,7 @@
 use crate::contents::{Act, Contents, Held};
 use crate::links::Links;
 use crate::numbers::{Numbers, filled, mixed};
-use crate::operations::{NEVER, Operation, Span, gathered};
+use crate::operations::{NEVER, PossibleOperation, CallSpan, gathered};
 use lin_events::{Body, Event, OutOfMemory, Reply};
 use lin_objects::Kind;
 use lin_orders::Placed;
@@ -12,7 +12,7 @@ use std::collections::{HashMap, HashSet};
 /// An operation, and what it did.
 #[derive(Clone, Copy)]
 struct Deed {
-    span: Span,
+    span: CallSpan,
     act: Act,
     /// Of one that never returned the one called before it that didn't either and had the same call, or `NEVER`. It goes first.
     alike: usize,
@@ -73,7 +73,7 @@ struct Search {
 }
 
 /// What the operation was answered, if it was.
-fn reply_of<'a>(events: &'a [Event], operation: &Operation) -> Option<&'a Reply> {
+fn reply_of<'a>(events: &'a [Event], operation: &PossibleOperation) -> Option<&'a Reply> {
     let event = events.get(operation.span.end)?;
     match &event.body {
         Body::Ok(_, reply) => Some(reply),

@@ -31,5 +31,5 @@ mod searching;
 mod sequence;
 mod sides;
 
-pub use operations::{NEVER, Operation, Span, gathered};
+pub use operations::{NEVER, PossibleOperation, CallSpan, gathered};
 pub use searching::depth_first_order;

@@ -8,28 +8,28 @@ pub const NEVER: usize = usize::MAX;
 
 /// Where an operation was invoked, which names it, and where it returned.
 #[derive(Clone, Copy)]
-pub struct Span {
+pub struct CallSpan {
     pub begin: usize,
     pub end: usize,
 }
 
 /// An operation that didn't fail.
 #[derive(Clone, Copy)]
-pub struct Operation {
+pub struct PossibleOperation {
     pub call: Call,
-    pub span: Span,
+    pub span: CallSpan,
 }
 
 /// The operations of the events, in the order of their invocations, without those that failed.
-pub fn gathered(alloc: Global, events: &[Event]) -> Result<Vec<Operation>, OutOfMemory> {
+pub fn gathered(alloc: Global, events: &[Event]) -> Result<Vec<PossibleOperation>, OutOfMemory> {
     let mut operations = Vec::new(alloc);
     let mut latest: HashMap<u64, usize> = HashMap::new(alloc);
     for (at, event) in events.iter().enumerate() {
         if let Body::Invoke(call) = &event.body {
             latest.insert(event.process, operations.len())?;
-            operations.push(Some(Operation {
+            operations.push(Some(PossibleOperation {
                 call: *call,
-                span: Span {
+                span: CallSpan {
                     begin: at,
                     end: NEVER,
                 },
@@ -50,7 +50,7 @@ pub fn gathered(alloc: Global, events: &[Event]) -> Result<Vec<Operation>, OutOf
 }
 
 /// The operation completed at the place; it is none if it failed.
-fn complete(operation: &mut Option<Operation>, at: usize, body: &Body) {
+fn complete(operation: &mut Option<PossibleOperation>, at: usize, body: &Body) {
     match body {
         Body::Ok(_, _) => {
             if let Some(operation) = operation {

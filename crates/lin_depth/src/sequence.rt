@@ -1,6 +1,6 @@
 //! The order of a queue's operations, made of the order in which items were put in and taken out.
 use crate::numbers::{Numbers, filled};
-use crate::operations::Span;
+use crate::operations::CallSpan;
 use lin_events::{OutOfMemory, Reply, Val};
 use lin_orders::Placed;
 use std::alloc::Global;
@@ -8,7 +8,7 @@ use std::alloc::Global;
 /// An operation of a queue, and the number of its item as a value.
 #[derive(Clone, Copy)]
 pub struct Passing {
-    pub span: Span,
+    pub span: CallSpan,
     pub item: usize,
 }
 

@@ -1,7 +1,7 @@
 //! The search for the order in which a queue's items were put in, and taken out, of which both sides are made at once.
 use crate::links::Links;
 use crate::numbers::{Numbers, filled, mixed};
-use crate::operations::{NEVER, Operation, Span, gathered};
+use crate::operations::{NEVER, PossibleOperation, CallSpan, gathered};
 use crate::sequence::{Pair, Passing, sequence_of};
 use lin_events::{Body, Call, Event, OutOfMemory, Reply, Val};
 use lin_orders::Placed;
@@ -140,7 +140,7 @@ struct Choice {
 
 /// A step of the search.
 #[derive(Clone, Copy)]
-struct Step {
+struct SearchStep {
     /// How many choices are of earlier steps.
     base: usize,
     /// The one that was made.
@@ -165,7 +165,7 @@ struct Search {
     outs_window: Vec<usize>,
     fresh: Vec<Choice>,
     choices: Vec<Choice>,
-    steps: Vec<Step>,
+    steps: Vec<SearchStep>,
     /// Sets of ranked operations that were come to, and the present one, as numbers.
     seen: HashSet<u64>,
     mark: u64,
@@ -179,7 +179,7 @@ struct Search {
 /// The item that the operation put in or took out; none of a dequeue that never returned.
 fn item_passed(
     events: &[Event],
-    operation: &Operation,
+    operation: &PossibleOperation,
     numbers: &mut Numbers,
 ) -> Result<Option<usize>, OutOfMemory> {
     if let Call::Enqueue(item) = operation.call {
@@ -213,7 +213,7 @@ impl Sorted {
         }
     }
 
-    fn add(&mut self, call: Call, span: Span, item: Option<usize>) -> Result<(), OutOfMemory> {
+    fn add(&mut self, call: Call, span: CallSpan, item: Option<usize>) -> Result<(), OutOfMemory> {
         let number = self.passings.len();
         self.passings.push(Passing {
             span,
@@ -379,7 +379,7 @@ impl Search {
     }
 
     fn add_step(&mut self) -> Result<(), OutOfMemory> {
-        self.steps.push(Step {
+        self.steps.push(SearchStep {
             base: self.choices.len(),
             made: None,
             latest: self.latest,
@@ -410,7 +410,7 @@ impl Search {
     }
 
     /// The pair of the step, if one was made, is taken back.
-    fn undo(&mut self, step: Step) {
+    fn undo(&mut self, step: SearchStep) {
         let Some(pair) = step.made else {
             return;
         };

@@ -22,7 +22,7 @@ use std::alloc::Global;
 
 /// What is drawn, and what is known of it.
 #[derive(Clone, Copy)]
-struct Asked<'a, 'p> {
+struct Scene<'a, 'p> {
     present: &'a Present<'a>,
     /// The spellings of words.
     names: &'a Names,
@@ -66,7 +66,7 @@ fn stops_of(answer: &Answer, own: &Own) -> Option<usize> {
 fn found_order<O: Orders>(
     alloc: Global,
     orders: &O,
-    asked: &Asked,
+    asked: &Scene,
     own: &Own,
     failing: Option<usize>,
 ) -> Result<Vec<Placed>, OutOfMemory> {
@@ -85,7 +85,7 @@ fn order_in<'a>(answer: &'a Answer, found: &'a [Placed]) -> &'a [Placed] {
 }
 
 /// The events of the object.
-fn events_for(alloc: Global, asked: &Asked) -> Result<Own, OutOfMemory> {
+fn events_for(alloc: Global, asked: &Scene) -> Result<Own, OutOfMemory> {
     match asked.subject.key {
         Some(key) => own_of(alloc, asked.present, key, asked.subject.count),
         None => own_of(alloc, asked.present, Item::Int(0), 0),
@@ -95,7 +95,7 @@ fn events_for(alloc: Global, asked: &Asked) -> Result<Own, OutOfMemory> {
 /// The picture with the layout and the texts.
 fn finished(
     alloc: Global,
-    asked: &Asked,
+    asked: &Scene,
     own: &Own,
     mut layout: Layout,
     texts: &Texts,
@@ -116,7 +116,7 @@ fn finished(
 /// The picture of the object, of whose operations these may be drawn.
 fn pictured(
     alloc: Global,
-    asked: &Asked,
+    asked: &Scene,
     object: &Object,
     choice: Choice,
 ) -> Result<Vec<u8>, OutOfMemory>
@@ -145,7 +145,7 @@ fn pictured(
 }
 
 /// The picture of what is asked.
-fn picture_of<O: Orders>(alloc: Global, orders: &O, asked: &Asked) -> Result<Vec<u8>, OutOfMemory>
+fn picture_of<O: Orders>(alloc: Global, orders: &O, asked: &Scene) -> Result<Vec<u8>, OutOfMemory>
     ensures { IfOk result (λ text. IsSvg text.items) }
 {
     let own = events_for(alloc, asked)?;
@@ -187,7 +187,7 @@ pub fn picture_with_places<O: Orders>(
     if let Answer::IllFormed { .. } = answer {
         return Ok(Vec::new(alloc));
     }
-    let asked = Asked {
+    let asked = Scene {
         present,
         names,
         answer,

@@ -33,7 +33,7 @@ pub(crate) enum Frame<'a> {
 
 /// What became of an element.
 #[derive(Drop)]
-pub(crate) enum Placed<'a> {
+pub(crate) enum Fate<'a> {
     Inside,
     /// Nothing was open round it; with the place where it begins.
     Alone(Edn<'a>, usize),
@@ -111,26 +111,26 @@ pub(crate) fn finish<'a>(
     stack: &mut Vec<Frame<'a>>,
     element: Edn<'a>,
     from: usize,
-) -> Result<Placed<'a>, AllocError>
+) -> Result<Fate<'a>, AllocError>
     ensures { IfOk result (λ placed. (used : ℕ) →
         IsPlaced (machine.put (view element.entry) from (frames_of stack.old.items) used) used placed (frames_of stack.new.items)) }
 {
     match pop(stack) {
-        None => Ok(Placed::Alone(element, from)),
+        None => Ok(Fate::Alone(element, from)),
         Some(Frame::Elements(sequence, at, mut items)) => {
             items.push(element)?;
             push(stack, Frame::Elements(sequence, at, items))?;
-            Ok(Placed::Inside)
+            Ok(Fate::Inside)
         }
         Some(Frame::Entries(at, entries, key)) => {
             push(stack, with_element(at, entries, key, element)?)?;
-            Ok(Placed::Inside)
+            Ok(Fate::Inside)
         }
         Some(Frame::Tag(at, tag)) => {
             let whole = tagged(alloc, tag, element)?;
             finish(alloc, stack, whole, at)
         }
-        Some(Frame::Discard(_)) => Ok(Placed::Inside),
+        Some(Frame::Discard(_)) => Ok(Fate::Inside),
     }
 }
 

@@ -13,7 +13,7 @@ ghost use Rattle.lin_edn.specs.Value as value;
 ghost use Rattle.lin_edn.specs.View.{view, entry_view};
 
 use crate::levels::{
-    Frame, Placed, Sequence, closing, depth, finish, gathered, map_of, opened_at, pop, push,
+    Frame, Fate, Sequence, closing, depth, finish, gathered, map_of, opened_at, pop, push,
 };
 use crate::run::run_element;
 use crate::scan::{line_end, plain_end, run_end, white_end};
@@ -112,8 +112,8 @@ fn settle<'a>(
         (machine.put (view element.entry) from (frames_of stack.old.items) used)) }
 {
     match finish(alloc, stack, element, from)? {
-        Placed::Inside => Ok(Moved::On(Mode::Between)),
-        Placed::Alone(element, from) => Ok(Moved::Done(element, from, used)),
+        Fate::Inside => Ok(Moved::On(Mode::Between)),
+        Fate::Alone(element, from) => Ok(Moved::Done(element, from, used)),
     }
 }
 
@@ -253,8 +253,8 @@ fn end_run<'a>(
     }
     let text = &input[start..at];
     match finish(alloc, stack, run_element(start, text), start)? {
-        Placed::Inside => Ok(Ended::On(Mode::Between)),
-        Placed::Alone(element, from) => Ok(Ended::Whole(element, from)),
+        Fate::Inside => Ok(Ended::On(Mode::Between)),
+        Fate::Alone(element, from) => Ok(Ended::Whole(element, from)),
     }
 }
 
@@ -302,8 +302,8 @@ fn end_atom<'a>(
         (machine.put (value.atom start text.entry.now) start (frames_of stack.old.items) at)) }
 {
     match finish(alloc, stack, atom_of(start, text), start)? {
-        Placed::Inside => Ok(Ended::On(Mode::Between)),
-        Placed::Alone(element, from) => Ok(Ended::Whole(element, from)),
+        Fate::Inside => Ok(Ended::On(Mode::Between)),
+        Fate::Alone(element, from) => Ok(Ended::Whole(element, from)),
     }
 }
 

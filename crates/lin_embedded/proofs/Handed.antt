@@ -2,14 +2,14 @@
 use Rattle.std.proofs.Common.{ℕ, List, sym, subst}
 use Rattle.lin_texts.specs.declared.status.Status.{Status}
 use Rattle.lin_embedded.specs.Calls.{HandsBack, IsJust, Telling}
-use Rattle.lin_embedded.specs.declared.handing.Ended.{Ended}
-use Rattle.lin_embedded.specs.declared.handing.Ended.TheVariants.{Told, BadOptions, OutOfMemory, TooLittleRoom, Done, NoSession}
+use Rattle.lin_embedded.specs.declared.handing.CallEnd.{CallEnd}
+use Rattle.lin_embedded.specs.declared.handing.CallEnd.TheVariants.{Told, BadOptions, OutOfMemory, TooLittleRoom, Done, NoSession}
 
 module _ (is_right : Telling) (found : List ℕ) (ends : Status) (right : is_right found ends) where
   as_found : (text : List ℕ) (status : Status) → IsJust found ends text status → is_right text status
   as_found text status just = subst (λ t. is_right t status) (sym just.0) (subst (λ s. is_right found s) (sym just.1) right)
 
-  pub hands : (before after : List ℕ) (was needed : ℕ) (ended : Ended) → HandsBack (IsJust found ends) before after was needed ended → HandsBack is_right before after was needed ended
+  pub hands : (before after : List ℕ) (was needed : ℕ) (ended : CallEnd) → HandsBack (IsJust found ends) before after was needed ended → HandsBack is_right before after was needed ended
   hands before after was needed (Told status) (text, just, fits, stands, counted) = (text, as_found text status just, fits, stands, counted)
   hands before after was needed TooLittleRoom (text, status, just, long, stands, counted) = (text, status, as_found text status just, long, stands, counted)
   hands before after was needed BadOptions it = it

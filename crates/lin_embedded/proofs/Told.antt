@@ -8,8 +8,8 @@ use Rattle.lin_recorder.specs.declared.recorder.Ordered.{Ordered}
 use Rattle.lin_recorder.specs.declared.recorder.Recorder.{Recorder}
 use Rattle.lin_embedded.specs.Calls.{HandsBack, IsJust}
 use Rattle.lin_embedded.specs.Sessions.{Calls, OrdersAs}
-use Rattle.lin_embedded.specs.declared.handing.Ended.{Ended}
-use Rattle.lin_embedded.specs.declared.handing.Ended.TheVariants.{Told, BadOptions, OutOfMemory, TooLittleRoom, Done, NoSession}
+use Rattle.lin_embedded.specs.declared.handing.CallEnd.{CallEnd}
+use Rattle.lin_embedded.specs.declared.handing.CallEnd.TheVariants.{Told, BadOptions, OutOfMemory, TooLittleRoom, Done, NoSession}
 
 -- what was told of a piece, field by field
 pub fed_so : (piece : List ℕ) (r r' : Recorder) (intake : Intake) (is_refused : Bool) → intake.is_refused ≡ is_refused
@@ -22,7 +22,7 @@ memory_not_bad same = cc
 
 -- what is handed back of an order
 pub handed_back : (r r' : Recorder) (old new : Option Recorder) → old ≡ Some r → new ≡ Some r' → (ordered : Ordered) → Orders r r' (Ok ordered)
-    → (status : Status) → status ≡ answer_status ordered.verdict → (before after : List ℕ) (was needed : ℕ) (ended : Ended)
+    → (status : Status) → status ≡ answer_status ordered.verdict → (before after : List ℕ) (was needed : ℕ) (ended : CallEnd)
     → HandsBack (IsJust ordered.order.items status) before after was needed ended → ended ≢ BadOptions → (same : Type 0)
     → Calls (OrdersAs before after was needed) same old new ended
 handed_back r r' old new held holds ordered orders status is before after was needed ended hands good same = by_end ended right good
@@ -30,7 +30,7 @@ handed_back r r' old new held holds ordered orders status is before after was ne
     right : HandsBack (IsJust ordered.order.items (answer_status ordered.verdict)) before after was needed ended
     right = subst (λ (s : Status). HandsBack (IsJust ordered.order.items s) before after was needed ended) is hands
 
-    by_end : (e : Ended) → HandsBack (IsJust ordered.order.items (answer_status ordered.verdict)) before after was needed e → e ≢ BadOptions
+    by_end : (e : CallEnd) → HandsBack (IsJust ordered.order.items (answer_status ordered.verdict)) before after was needed e → e ≢ BadOptions
         → Calls (OrdersAs before after was needed) same old new e
     by_end (Told s) it not_bad = (r, r', held, holds, (Ok ordered, orders, it, not_bad))
     by_end TooLittleRoom it not_bad = (r, r', held, holds, (Ok ordered, orders, it, not_bad))

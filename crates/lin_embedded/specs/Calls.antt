@@ -7,8 +7,8 @@ use Rattle.lin_report.specs.Reports.{IsPrinted, IsRightReport, Printing}
 use Rattle.lin_report.specs.declared.explaining.Question.{Question}
 use Rattle.lin_embedded.specs.Options.{IsQuestion, format_of, settings_of}
 use Rattle.lin_embedded.specs.declared.options.Options.{Options}
-use Rattle.lin_embedded.specs.declared.handing.Ended.{Ended}
-use Rattle.lin_embedded.specs.declared.handing.Ended.TheVariants.{Told, BadOptions, OutOfMemory, TooLittleRoom, Done, NoSession}
+use Rattle.lin_embedded.specs.declared.handing.CallEnd.{CallEnd}
+use Rattle.lin_embedded.specs.declared.handing.CallEnd.TheVariants.{Told, BadOptions, OutOfMemory, TooLittleRoom, Done, NoSession}
 
 -- It is right to print of these bytes: of all of them, or, where a fault of form or too many events refuse them, of those up to there.
 abbrev pub IsPrintedOf : Printing → List ℕ → List ℕ → Status → Type 0
@@ -33,7 +33,7 @@ IsExplanationOf options key history text status =
 
 -- What stands behind a call in the caller's room and in its count: a right text and its length, and behind it what was there; where the text has
 -- no room, its length alone; and else all is as it was.
-abbrev pub HandsBack : Telling → List ℕ → List ℕ → ℕ → ℕ → Ended → Type 0
+abbrev pub HandsBack : Telling → List ℕ → List ℕ → ℕ → ℕ → CallEnd → Type 0
 HandsBack is_right before after was needed (Told status) =
     (text : List ℕ) × is_right text status × (length text ≤ length before) × (after ≡ text ++ drop (length text) before) × (needed ≡ length text)
 HandsBack is_right before after was needed TooLittleRoom =
@@ -52,7 +52,7 @@ status_number IllFormed = 3
 status_number Refused = 4
 
 -- the number that a call gives
-abbrev pub number_of : Ended → ℕ
+abbrev pub number_of : CallEnd → ℕ
 number_of (Told status) = status_number status
 number_of BadOptions = 5
 number_of OutOfMemory = 6
@@ -63,5 +63,5 @@ number_of Done = 0
 -- what the number of a call says: it is that of an end by which this is handed back, and bad options end it just where they are bad
 abbrev pub Ends : Telling → Type 0 → List ℕ → List ℕ → ℕ → ℕ → ℕ → Type 0
 Ends is_right are_good before after was needed number =
-    (ended : Ended) × (number ≡ number_of ended) × HandsBack is_right before after was needed ended
+    (ended : CallEnd) × (number ≡ number_of ended) × HandsBack is_right before after was needed ended
     × ((ended ≡ BadOptions → are_good → ⊥) × ((are_good → ⊥) → ended ≡ BadOptions))

@@ -6,8 +6,8 @@ use Rattle.lin_objects.specs.declared.kinds.Kind.TheVariants.{Register, CasRegis
 use Rattle.lin_texts.specs.Items.{item_written}
 use Rattle.lin_texts.specs.declared.settings.Settings.{Settings}
 use Rattle.lin_report.specs.declared.explaining.Question.{Question}
-use Rattle.lin_report.specs.declared.formats.Format.{Format}
-use Rattle.lin_report.specs.declared.formats.Format.TheVariants.{Text, Json}
+use Rattle.lin_report.specs.declared.formats.ReportFormat.{ReportFormat}
+use Rattle.lin_report.specs.declared.formats.ReportFormat.TheVariants.{Text, Json}
 use Rattle.lin_embedded.specs.declared.options.Options.{Options}
 
 -- the kinds by their numbers
@@ -28,7 +28,7 @@ pub record AreOptions (options : Options) : Type 0 where
 abbrev pub settings_of : Options → Settings
 settings_of options = record { kind = kind_numbered options.kind; keyed = options.keyed == 1; budget = options.budget; at_least = 0 }
 
-abbrev pub format_of : Options → Format
+abbrev pub format_of : Options → ReportFormat
 format_of options = if options.json == 1 then Json else Text
 
 -- the key that a text names, if any; the empty text stands for none

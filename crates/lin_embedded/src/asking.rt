@@ -6,7 +6,7 @@ ghost use Rattle.lin_report.specs.Explanations.{IsRightExplanation};
 ghost use Rattle.lin_embedded.specs.Calls.{IsPrintedOf};
 
 use crate::handing::Found;
-use lin_report::{Counted, Format, Question, RunFault, Settings};
+use lin_report::{Counted, ReportFormat, Question, RunFault, Settings};
 use std::alloc::Global;
 use std::collections::VecDeque;
 use std::io::Read;
@@ -26,7 +26,7 @@ fn text_in(alloc: Global, out: &mut Counted<VecDeque<u8>>) -> Result<Vec<u8>, Ru
 pub fn report(
     alloc: Global,
     settings: Settings,
-    format: Format,
+    format: ReportFormat,
     history: &[u8],
 ) -> Result<Found, RunFault>
     requires { (1 ≤ settings.budget) × (settings.budget ≤ 1000000) }

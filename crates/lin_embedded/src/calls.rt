@@ -4,7 +4,7 @@ ghost use Rattle.lin_embedded.specs.Calls.{HandsBack, IsExplanationOf, IsReportO
 ghost use Rattle.lin_embedded.specs.Options.{AreOptions, NamesNone};
 
 use crate::asking::{explanation, report};
-use crate::handing::{Ended, hand_back};
+use crate::handing::{CallEnd, hand_back};
 use crate::options::{Options, are_options, format_of, question_of, settings_of};
 use std::alloc::Global;
 
@@ -16,16 +16,16 @@ pub fn check(
     history: &[u8],
     room: &mut [u8],
     needed: &mut usize,
-) -> Ended
+) -> CallEnd
     ensures hands { HandsBack (IsReportOf options history.now) room.old room.new needed.old needed.new result }
-    ensures bad { (result ≡ Ended.BadOptions) ↔ (AreOptions options → ⊥) }
+    ensures bad { (result ≡ CallEnd.BadOptions) ↔ (AreOptions options → ⊥) }
 {
     if !are_options(options) {
-        return Ended::BadOptions;
+        return CallEnd::BadOptions;
     }
     match report(alloc, settings_of(options), format_of(options), history) {
         Ok(found) => hand_back(&found, room, needed),
-        Err(_) => Ended::OutOfMemory,
+        Err(_) => CallEnd::OutOfMemory,
     }
 }
 
@@ -38,18 +38,18 @@ pub fn explain(
     key: &[u8],
     room: &mut [u8],
     needed: &mut usize,
-) -> Ended
+) -> CallEnd
     ensures hands { HandsBack (IsExplanationOf options key.now history.now) room.old room.new needed.old needed.new result }
-    ensures bad { (result ≡ Ended.BadOptions) ↔ (AreOptions options × (NamesNone key.now → ⊥) → ⊥) }
+    ensures bad { (result ≡ CallEnd.BadOptions) ↔ (AreOptions options × (NamesNone key.now → ⊥) → ⊥) }
 {
     if !are_options(options) {
-        return Ended::BadOptions;
+        return CallEnd::BadOptions;
     }
     let Some(question) = question_of(options, key) else {
-        return Ended::BadOptions;
+        return CallEnd::BadOptions;
     };
     match explanation(alloc, settings_of(options), question, history) {
         Ok(found) => hand_back(&found, room, needed),
-        Err(_) => Ended::OutOfMemory,
+        Err(_) => CallEnd::OutOfMemory,
     }
 }

@@ -14,7 +14,7 @@ pub struct Found {
 
 /// How a call ends.
 #[derive(Clone, Copy, Debug, PartialEq, Eq)]
-pub enum Ended {
+pub enum CallEnd {
     /// The text was put into the room, and this is its status.
     Told(Status),
     /// The options say nothing, or the key's text names no key.
@@ -42,32 +42,32 @@ fn status_number(status: Status) -> u32
     }
 }
 
-impl Ended {
+impl CallEnd {
     /// The number that stands for it.
     pub fn number(self) -> u32
         ensures { result ≡ said.number_of self }
     {
         match self {
-            Ended::Told(status) => status_number(status),
-            Ended::BadOptions => 5,
-            Ended::OutOfMemory => 6,
-            Ended::NoSession => 7,
-            Ended::TooLittleRoom => 8,
-            Ended::Done => 0,
+            CallEnd::Told(status) => status_number(status),
+            CallEnd::BadOptions => 5,
+            CallEnd::OutOfMemory => 6,
+            CallEnd::NoSession => 7,
+            CallEnd::TooLittleRoom => 8,
+            CallEnd::Done => 0,
         }
     }
 }
 
 /// Puts the text into the beginning of the room, where it fits, and tells its length.
-pub fn hand_back(found: &Found, room: &mut [u8], needed: &mut usize) -> Ended
+pub fn hand_back(found: &Found, room: &mut [u8], needed: &mut usize) -> CallEnd
     ensures hands { HandsBack (IsJust found.now.text.items found.now.status) room.old room.new needed.old needed.new result }
-    ensures good { result ≢ Ended.BadOptions }
+    ensures good { result ≢ CallEnd.BadOptions }
 {
     let text = found.text.as_slice();
     *needed = text.len();
     if room.len() < text.len() {
-        return Ended::TooLittleRoom;
+        return CallEnd::TooLittleRoom;
     }
     room[..text.len()].copy_from_slice(text);
-    Ended::Told(found.status)
+    CallEnd::Told(found.status)
 }

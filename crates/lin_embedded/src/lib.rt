@@ -8,6 +8,6 @@ mod options;
 mod sessions;
 
 pub use calls::{check, explain};
-pub use handing::Ended;
+pub use handing::CallEnd;
 pub use options::Options;
 pub use sessions::{session_ask, session_feed, session_free, session_new, session_order};

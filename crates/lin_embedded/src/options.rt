@@ -4,7 +4,7 @@ ghost use Rattle.lin_embedded.specs.Options.{AreOptions, IsQuestion, NamesNone, 
 ghost use Rattle.lin_embedded.specs.Options as said;
 
 use lin_objects::Kind;
-use lin_report::{Format, Question, Settings};
+use lin_report::{ReportFormat, Question, Settings};
 use lin_texts::item_in;
 
 /// The greatest budget.
@@ -65,13 +65,13 @@ pub fn settings_of(options: Options) -> Settings
 }
 
 /// How an answer is printed.
-pub fn format_of(options: Options) -> Format
+pub fn format_of(options: Options) -> ReportFormat
     ensures { result ≡ said.format_of options }
 {
     if options.json == 1 {
-        Format::Json
+        ReportFormat::Json
     } else {
-        Format::Text
+        ReportFormat::Text
     }
 }
 

@@ -4,7 +4,7 @@ ghost use Rattle.lin_report.specs.Reports.{answer_status};
 ghost use Rattle.lin_embedded.specs.Sessions.{AsksAs, Begins, Calls, FeedsAs, OrdersAs};
 ghost use Rattle.lin_embedded.specs.Sessions as said;
 
-use crate::handing::{Ended, Found, hand_back};
+use crate::handing::{CallEnd, Found, hand_back};
 use crate::options::{Options, are_options, settings_of};
 use lin_answers::Verdict;
 use lin_recorder::Handle;
@@ -36,49 +36,49 @@ fn put_place(verdict: Verdict, at: &mut u64)
 }
 
 /// Begins a session with no bytes. What the handle held is freed, where the options say something.
-pub fn session_new(alloc: Global, options: Options, session: &mut Handle) -> Ended
+pub fn session_new(alloc: Global, options: Options, session: &mut Handle) -> CallEnd
     ensures { Begins options session.old.value session.new.value result }
 {
     if !are_options(options) {
-        return Ended::BadOptions;
+        return CallEnd::BadOptions;
     }
     match session.open(alloc, settings_of(options)) {
-        Ok(()) => Ended::Done,
-        Err(_) => Ended::OutOfMemory,
+        Ok(()) => CallEnd::Done,
+        Err(_) => CallEnd::OutOfMemory,
     }
 }
 
 /// Takes in the next piece of a history, cut anywhere, and tells how many events count. `Refused` where no more will: for a fault of form, or since
 /// there are more than 1,000,000.
-pub fn session_feed(alloc: Global, session: &mut Handle, piece: &[u8], events: &mut u64) -> Ended
+pub fn session_feed(alloc: Global, session: &mut Handle, piece: &[u8], events: &mut u64) -> CallEnd
     ensures { Calls (FeedsAs piece.now events.old events.new) (events.new ≡ events.old) session.old.value session.new.value result }
 {
     let Some(fed) = session.feed(alloc, piece) else {
-        return Ended::NoSession;
+        return CallEnd::NoSession;
     };
     let Ok(intake) = fed else {
-        return Ended::OutOfMemory;
+        return CallEnd::OutOfMemory;
     };
     *events = intake.events as u64;
     if intake.is_refused {
-        Ended::Told(Status::Refused)
+        CallEnd::Told(Status::Refused)
     } else {
-        Ended::Done
+        CallEnd::Done
     }
 }
 
 /// Tells whether the history is linearizable that the bytes say so far, and where a verdict points to.
-pub fn session_ask(alloc: Global, session: &mut Handle, at: &mut u64) -> Ended
+pub fn session_ask(alloc: Global, session: &mut Handle, at: &mut u64) -> CallEnd
     ensures { Calls (AsksAs at.old at.new) (at.new ≡ at.old) session.old.value session.new.value result }
 {
     let Some(found) = session.ask(alloc) else {
-        return Ended::NoSession;
+        return CallEnd::NoSession;
     };
     let Ok(verdict) = found else {
-        return Ended::OutOfMemory;
+        return CallEnd::OutOfMemory;
     };
     put_place(verdict, at);
-    Ended::Told(status_of(verdict))
+    CallEnd::Told(status_of(verdict))
 }
 
 /// The same, with a legal order for a yes: its text, as `verify` reads it, is put into the beginning of the room, and its length into `needed`. Of
@@ -88,14 +88,14 @@ pub fn session_order(
     session: &mut Handle,
     room: &mut [u8],
     needed: &mut usize,
-) -> Ended
+) -> CallEnd
     ensures { Calls (OrdersAs room.old room.new needed.old needed.new) ((room.new ≡ room.old) × (needed.new ≡ needed.old)) session.old.value session.new.value result }
 {
     let Some(found) = session.order(alloc) else {
-        return Ended::NoSession;
+        return CallEnd::NoSession;
     };
     let Ok(ordered) = found else {
-        return Ended::OutOfMemory;
+        return CallEnd::OutOfMemory;
     };
     let found = Found {
         status: status_of(ordered.verdict),

@@ -13,8 +13,8 @@ use Rattle.lin_events.specs.declared.shapes.Cause.{Cause}
 use Rattle.lin_events.specs.declared.shapes.Cause.TheVariants.{RetiredProcess, BusyProcess, NotOfKind, NoInvocation, OtherCall, OtherKey}
 use Rattle.lin_events.specs.declared.shapes.Shape.{Shape}
 use Rattle.lin_events.specs.declared.shapes.Shape.TheVariants.{Good, Bad}
-use Rattle.lin_events.specs.declared.shapes.Status.{Status}
-use Rattle.lin_events.specs.declared.shapes.Status.TheVariants.{Idle, Busy, Retired}
+use Rattle.lin_events.specs.declared.shapes.ProcessStatus.{ProcessStatus}
+use Rattle.lin_events.specs.declared.shapes.ProcessStatus.TheVariants.{Idle, Busy, Retired}
 
 -- a completion that names this function
 abbrev pub Completes : Body → Name → Type 0
@@ -24,10 +24,10 @@ Completes (Fail named) name = named ≡ name
 Completes (Info named) name = named ≡ name
 
 -- what an event leaves its process as: busy after an invocation, idle after an ok or a fail, retired after an info
-abbrev pub left_by : Event → Status
+abbrev pub left_by : Event → ProcessStatus
 left_by event = after event.body
   where
-    after : Body → Status
+    after : Body → ProcessStatus
     after (Invoke call) = Busy (name_of call) event.key
     after (Ok name reply) = Idle
     after (Fail name) = Idle
@@ -40,12 +40,12 @@ pub record IsLast (h : List Event) (process at : ℕ) (event : Event) : Type 0 w
   pub last : (k : ℕ) → at < k → IsOf h process k → ⊥
 
 -- after the events, the process is what its last event left it as; one without an event is idle
-abbrev pub IsStatus : List Event → ℕ → Status → Type 0
+abbrev pub IsStatus : List Event → ℕ → ProcessStatus → Type 0
 IsStatus h process status = (((k : ℕ) → IsOf h process k → ⊥) × (status ≡ Idle))
     ⊎ ((at : ℕ) × (event : Event) × IsLast h process at event × (status ≡ left_by event))
 
 -- the six causes: when each holds of an event that finds its process in the status
-abbrev pub Holds : (Item → Name → Bool) → Status → Event → Cause → Type 0
+abbrev pub Holds : (Item → Name → Bool) → ProcessStatus → Event → Cause → Type 0
 Holds functions status event RetiredProcess = status ≡ Retired
 Holds functions status event BusyProcess = (call : Call) × (event.body ≡ Invoke call) × (called : Name) × (key : Item) × (status ≡ Busy called key)
 Holds functions status event NotOfKind = (call : Call) × (event.body ≡ Invoke call) × (functions event.key (name_of call) ≡ false)
@@ -63,19 +63,19 @@ number OtherCall = 5
 number OtherKey = 6
 
 -- the first cause that holds
-pub record IsFirstCause (functions : Item → Name → Bool) (status : Status) (event : Event) (cause : Cause) : Type 0 where
+pub record IsFirstCause (functions : Item → Name → Bool) (status : ProcessStatus) (event : Event) (cause : Cause) : Type 0 where
   pub holds : Holds functions status event cause
   pub first : (other : Cause) → number other < number cause → Holds functions status event other → ⊥
 
 -- this is the first cause that holds; or none is given, and none holds
-abbrev pub IsVerdict : (Item → Name → Bool) → Status → Event → Option Cause → Type 0
+abbrev pub IsVerdict : (Item → Name → Bool) → ProcessStatus → Event → Option Cause → Type 0
 IsVerdict functions status event verdict = MatchOption verdict ((cause : Cause) → Holds functions status event cause → ⊥) (IsFirstCause functions status event)
 
 -- the position is bad for this cause
 pub record IsBad (functions : Item → Name → Bool) (h : List Event) (at : ℕ) (cause : Cause) : Type 0 where
   pub event : Event
   pub stands : IsEvent h at event
-  pub status : Status
+  pub status : ProcessStatus
   pub found : IsStatus (take at h) event.process status
   pub caused : IsFirstCause functions status event cause
 

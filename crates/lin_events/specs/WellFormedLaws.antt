@@ -5,7 +5,7 @@ use Rattle.lin_events.specs.declared.calls.Name.{Name}
 use Rattle.lin_events.specs.declared.events.Event.{Event}
 use Rattle.lin_events.specs.declared.shapes.Cause.{Cause}
 use Rattle.lin_events.specs.declared.shapes.Shape.{Shape}
-use Rattle.lin_events.specs.declared.shapes.Status.{Status}
+use Rattle.lin_events.specs.declared.shapes.ProcessStatus.{ProcessStatus}
 use Rattle.lin_events.specs.Operations.{IsEvent, IsEnd}
 use Rattle.lin_events.specs.WellFormed.{left_by, IsStatus, Holds, IsBad, IsShape, IsWellFormed}
 use Rattle.lin_events.specs.Alternation.{IsAlternating}
@@ -28,11 +28,11 @@ EventsDecideStatuses = (h : List Event) (event : Event) → IsStatus (h ++ event
 
 -- and leaves every other process as it was
 abbrev pub OtherStatusesStay : Type 0
-OtherStatusesStay = (h : List Event) (event : Event) (process : ℕ) (status : Status) → event.process ≢ process → IsStatus h process status → IsStatus (h ++ event ∷ []) process status
+OtherStatusesStay = (h : List Event) (event : Event) (process : ℕ) (status : ProcessStatus) → event.process ≢ process → IsStatus h process status → IsStatus (h ++ event ∷ []) process status
 
 -- where no cause holds, the position is not bad
 abbrev pub NoCauseIsGood : Type 0
-NoCauseIsGood = (functions : Item → Name → Bool) (h : List Event) (at : ℕ) (event : Event) (status : Status) → IsEvent h at event → IsStatus (take at h) event.process status
+NoCauseIsGood = (functions : Item → Name → Bool) (h : List Event) (at : ℕ) (event : Event) (status : ProcessStatus) → IsEvent h at event → IsStatus (take at h) event.process status
     → ((cause : Cause) → Holds functions status event cause → ⊥) → (cause : Cause) → IsBad functions h at cause → ⊥
 
 -- bad in a beginning are the bad positions inside it

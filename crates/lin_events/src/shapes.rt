@@ -39,7 +39,7 @@ impl Shape {
 
 /// What a process is between its events.
 #[derive(Clone, Copy, Debug, PartialEq, Eq)]
-pub enum Status {
+pub enum ProcessStatus {
     /// Free to invoke.
     Idle,
     /// Within an operation: what was invoked, and at which key.

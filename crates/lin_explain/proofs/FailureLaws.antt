@@ -14,7 +14,7 @@ use Rattle.lin_events.specs.declared.events.Body.TheVariants.{Invoke, Ok, Fail, 
 use Rattle.lin_events.specs.declared.events.Event.{Event}
 use Rattle.lin_events.specs.declared.shapes.Cause.{Cause}
 use Rattle.lin_events.specs.declared.shapes.Cause.TheVariants.{RetiredProcess, BusyProcess, NotOfKind, NoInvocation, OtherCall, OtherKey}
-use Rattle.lin_events.specs.declared.shapes.Status.{Status}
+use Rattle.lin_events.specs.declared.shapes.ProcessStatus.{ProcessStatus}
 use Rattle.lin_events.specs.Alternation.{IsAlternating, IsReturn}
 use Rattle.lin_events.specs.Operations.{IsCrashed, IsEnd, IsEvent, IsFailed, IsOk, IsOpen, IsOperation}
 use Rattle.lin_events.specs.WellFormed.{Completes, Holds, IsBad, IsFirstCause, IsStatus, IsWellFormed}
@@ -82,7 +82,7 @@ without_pair process reply (x ∷ xs) rising there = elim (first_or_rest x xs (p
 ]
 
 -- causes don't look at replies
-same_cause : (functions : Item → Name → Bool) (status : Status) (ending : Event) (name : Name) (a b : Reply) (cause : Cause)
+same_cause : (functions : Item → Name → Bool) (status : ProcessStatus) (ending : Event) (name : Name) (a b : Reply) (cause : Cause)
     → Holds functions status (ok_with ending name a) cause → Holds functions status (ok_with ending name b) cause
 same_cause functions status ending name a b RetiredProcess holds = holds
 same_cause functions status ending name a b BusyProcess holds = absurd (no_invoke holds.0 holds.1)

@@ -8,7 +8,7 @@ use Rattle.lin_certificates.specs.declared.certificate.Certificate.{Certificate}
 use Rattle.lin_certificates.specs.declared.certificate.Certificate.TheVariants as Form
 use Rattle.lin_reasons.specs.Groups.{IsListing}
 use Rattle.lin_reasons.specs.Reasons.{IsReason}
-use Rattle.lin_reasons.specs.declared.told.Told.{Told as Source}
+use Rattle.lin_reasons.specs.declared.told.ObjectEvents.{ObjectEvents as Source}
 use Rattle.lin_window.specs.Tables.{Told, position_in}
 use Rattle.lin_explain.specs.declared.parts.Why.{Why}
 

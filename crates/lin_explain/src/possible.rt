@@ -10,7 +10,7 @@ use crate::parts::Choices;
 use lin_events::OutOfMemory;
 use lin_outcomes::{Before, Listed, Outcomes, outcomes_of, put_outcomes};
 use lin_possible::Possible;
-use lin_words::Entry;
+use lin_words::ListLine;
 use std::alloc::{AllocError, Global};
 
 /// What is told to be possible, in parts.
@@ -21,7 +21,7 @@ pub(crate) struct Possibilities {
 }
 
 /// The words of the entries.
-fn words_of(alloc: Global, entries: &[Entry]) -> Result<Vec<Vec<u8>>, AllocError>
+fn words_of(alloc: Global, entries: &[ListLine]) -> Result<Vec<Vec<u8>>, AllocError>
     ensures { IfOk result (λ all. map (λ words. words.items) all.items ≡ map (λ entry. entry.words.items) entries.now) }
 {
     let mut all = Vec::new(alloc);

@@ -10,7 +10,7 @@ use crate::failures::Failure;
 use crate::known::Quiet;
 use lin_events::OutOfMemory;
 use lin_texts::put_number;
-use lin_window::{Listed, Window, put_operations};
+use lin_window::{ListedOperations, Window, put_operations};
 use std::alloc::{AllocError, Global};
 
 /// Puts last since which position of the whole history the stretch runs.
@@ -58,6 +58,6 @@ pub(crate) fn put_since(
         from: quiet.from,
         named,
     };
-    put_operations(alloc, text, stretch, &Listed::Around(window))?;
+    put_operations(alloc, text, stretch, &ListedOperations::Around(window))?;
     Ok(*at)
 }

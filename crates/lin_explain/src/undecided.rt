@@ -20,7 +20,7 @@ use lin_events::{Event, Meter, OutOfMemory};
 use lin_objects::Kind;
 use lin_orders::ends_of;
 use lin_texts::put_number;
-use lin_window::{Listed, Stretch, open_counts, put_operations};
+use lin_window::{ListedOperations, Stretch, open_counts, put_operations};
 use lin_words::{put_event, put_event_spot};
 use std::alloc::{AllocError, Global};
 
@@ -164,7 +164,7 @@ fn put_open(
 {
     let (running, crashed) = open_counts(stretch.events, stretch.ends);
     put_open_line(text, running, crashed)?;
-    put_operations(alloc, text, stretch, &Listed::Open)?;
+    put_operations(alloc, text, stretch, &ListedOperations::Open)?;
     put_help_line(text, budget, keyed, running, crashed)?;
     Ok(())
 }

@@ -10,7 +10,7 @@ use lin_candidates::find_certificate;
 use lin_certificates::Certificate;
 use lin_events::OutOfMemory;
 use lin_objects::Kind;
-use lin_reasons::{Told, put_reason};
+use lin_reasons::{ObjectEvents, put_reason};
 use lin_window::Stretch;
 use std::alloc::{AllocError, Global};
 
@@ -88,7 +88,7 @@ pub(crate) fn put_certificate(
     requires holds { Certifies stretch.now.events.now kind certificate.now }
     ensures { IfOk result (λ told. (lines : List ℕ) × IsWhy kind (told_of stretch.now) lines told.named.items told.why × (text.new.items ≡ text.old.items ++ lines)) }
 {
-    let told = Told {
+    let told = ObjectEvents {
         names: stretch.names,
         events: stretch.events,
         ends: stretch.ends,

@@ -7,8 +7,8 @@ use Rattle.lin_edn.specs.Run.{run_value, of_number, is_keyword, integer}
 use Rattle.lin_edn.specs.Value.{Value, nil, bool, keyword, atom, vector, map, values_of, entry, entries_of, pairs_from}
 use Rattle.lin_history.specs.Table.{bare, is_word, here, under}
 use Rattle.lin_history.specs.inner.Usual.{in_turn, IsPlaced, IsPut, IsAdded, IsValueAt, IsUpTo, IsMapAt}
-use Rattle.lin_history.specs.declared.usual.Place.{Place}
-use Rattle.lin_history.specs.declared.usual.Places.{Places}
+use Rattle.lin_history.specs.declared.usual.Extent.{Extent}
+use Rattle.lin_history.specs.declared.usual.ValueExtents.{ValueExtents}
 
 -- no run is a tagged element
 bare_if : (b : Bool) (v w : Value) → bare v ≡ v → bare w ≡ w → bare (if b then v else w) ≡ (if b then v else w)
@@ -39,10 +39,10 @@ other_word x p w h =
     (other_if x (bytes_eq w (codes "false")) (bool false) _ refl (other_number x p w (integer w) h)))
 
 -- a key that is none of the four
-none_put : (x : List ℕ) (p : ℕ) (w : List ℕ) (old : Option Place) (at : Place) → bytes_eq w x ≡ false → IsPut (is_word x (run_value p w)) old at old
+none_put : (x : List ℕ) (p : ℕ) (w : List ℕ) (old : Option Extent) (at : Extent) → bytes_eq w x ≡ false → IsPut (is_word x (run_value p w)) old at old
 none_put x p w old at h = subst (λ b. IsPut b old at old) (sym (other_word x p w h)) refl
 
-pub none_added : (ps : Places) (p : ℕ) (w : List ℕ) (at : Place) → bytes_eq w (codes ":process") ≡ false → bytes_eq w (codes ":type") ≡ false →
+pub none_added : (ps : ValueExtents) (p : ℕ) (w : List ℕ) (at : Extent) → bytes_eq w (codes ":process") ≡ false → bytes_eq w (codes ":type") ≡ false →
     bytes_eq w (codes ":f") ≡ false → bytes_eq w (codes ":value") ≡ false → IsAdded ps (run_value p w) at ps
 none_added ps p w at a b c d = record {
   process = none_put (codes ":process") p w ps.process at a;
@@ -104,7 +104,7 @@ under_more : (x : List ℕ) (es : List (Value × Value)) (k v : Value) → under
 under_more x [] k v = append-nil (here x k v)
 under_more x (e ∷ es) k v = ap (λ l. here x e.0 e.1 ++ l) (under_more x es k v) ∙ sym (append_assoc (here x e.0 e.1) (under x (entries_of es)) (here x k v))
 
-placed_more : (s : List ℕ) (levels : ℕ) (vs : List Value) (b : Bool) (old new : Option Place) (p : Place) (v : Value) (used : ℕ) → IsPut b old p new → IsPlaced s levels vs old →
+placed_more : (s : List ℕ) (levels : ℕ) (vs : List Value) (b : Bool) (old new : Option Extent) (p : Extent) (v : Value) (used : ℕ) → IsPut b old p new → IsPlaced s levels vs old →
     IsValueAt s levels p v used → IsPlaced s levels (vs ++ (if b then bare v ∷ [] else [])) new
 placed_more s levels vs true old new p v used put placed here =
     let none : vs ≡ [] = subst (IsPlaced s levels vs) put.0 placed in
@@ -112,7 +112,7 @@ placed_more s levels vs true old new p v used put placed here =
 placed_more s levels vs false old new p v used put placed here =
     subst (IsPlaced s levels (vs ++ [])) (sym put) (subst (λ l. IsPlaced s levels l old) (sym (append-nil vs)) placed)
 
-under_placed : (s : List ℕ) (levels : ℕ) (x : List ℕ) (es : List (Value × Value)) (k v : Value) (old new : Option Place) (p : Place) (used : ℕ) → IsPut (is_word x k) old p new →
+under_placed : (s : List ℕ) (levels : ℕ) (x : List ℕ) (es : List (Value × Value)) (k v : Value) (old new : Option Extent) (p : Extent) (used : ℕ) → IsPut (is_word x k) old p new →
     IsPlaced s levels (under x (entries_of es)) old → IsValueAt s levels p v used → IsPlaced s levels (under x (entries_of (es ++ (k, v) ∷ []))) new
 under_placed s levels x es k v old new p used put placed here =
     subst (λ l. IsPlaced s levels l new) (sym (under_more x es k v)) (placed_more s levels (under x (entries_of es)) (is_word x k) old new p v used put placed here)
@@ -126,7 +126,7 @@ row_more s start from until at used levels es k v row key whites here =
     subst (λ l. Row levels (start + 1) (drop (start + 1) s) l used (drop used s)) (turn_more es k v)
     (element (whites levels (start + 1) (drop (start + 1) s) (in_turn es ++ k ∷ []) (element row (key levels))) here)
 
-pub entry_more : (s : List ℕ) (start from until at used levels : ℕ) (p : Place) (k v : Value) (old new : Places) → p.at ≡ at → IsUpTo s start levels from old →
+pub entry_more : (s : List ℕ) (start from until at used levels : ℕ) (p : Extent) (k v : Value) (old new : ValueExtents) → p.at ≡ at → IsUpTo s start levels from old →
     ((n : ℕ) → Element n from (drop from s) k until (drop until s)) →
     ((n p : ℕ) (t : List ℕ) (vs : List Value) → Row n p t vs until (drop until s) → Row n p t vs at (drop at s)) →
     IsValueAt s levels p v used → IsAdded old k p new → IsUpTo s start levels used new
@@ -144,7 +144,7 @@ entry_more s start from until at used levels p k v old new there upto key whites
     )
 
 -- blanks more
-pub blanks_more : (s : List ℕ) (start from at levels : ℕ) (ps : Places) → IsUpTo s start levels from ps →
+pub blanks_more : (s : List ℕ) (start from at levels : ℕ) (ps : ValueExtents) → IsUpTo s start levels from ps →
     ((n p : ℕ) (t : List ℕ) (vs : List Value) → Row n p t vs from (drop from s) → Row n p t vs at (drop at s)) → IsUpTo s start levels at ps
 blanks_more s start from at levels ps upto whites = (upto.0, upto.1, whites levels (start + 1) (drop (start + 1) s) (in_turn upto.0) upto.2)
 
@@ -156,7 +156,7 @@ opens_map : (c : ℕ) → c ≡ 123 → class c ≡ opener a_map
 opens_map c h = rw h refl
 
 -- behind the last entry
-pub map_closed : (s : List ℕ) (from at levels : ℕ) (ps : Places) → from < length s → get_or s from 0 ≡ 123 → at < length s → get_or s at 0 ≡ 125 →
+pub map_closed : (s : List ℕ) (from at levels : ℕ) (ps : ValueExtents) → from < length s → get_or s from 0 ≡ 123 → at < length s → get_or s at 0 ≡ 125 →
     IsUpTo s from levels at ps → IsMapAt s from levels ps (at + 1)
 map_closed s from at levels ps lt begins inside ends upto = (
   entries_of upto.0,

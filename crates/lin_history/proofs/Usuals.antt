@@ -22,20 +22,20 @@ use Rattle.lin_events.specs.declared.events.Body.TheVariants as body
 use Rattle.lin_events.specs.declared.events.Event.{Event}
 use Rattle.lin_history.specs.declared.table.EventType.{EventType}
 use Rattle.lin_history.specs.declared.table.EventType.TheVariants as types
-use Rattle.lin_history.specs.declared.usual.Place.{Place}
-use Rattle.lin_history.specs.declared.usual.Places.{Places}
+use Rattle.lin_history.specs.declared.usual.Extent.{Extent}
+use Rattle.lin_history.specs.declared.usual.ValueExtents.{ValueExtents}
 use Rattle.lin_history.proofs.Bodies.{with_body, up_to_body}
 use Rattle.lin_history.proofs.Maps.{bare_run}
 use Rattle.lin_history.proofs.Saying.{item_bare, item_back, said_plain}
 
 -- a kept run is the only value under its key
-pub word_alone : (s : List ℕ) (levels : ℕ) (vs : List Value) (p : Place) → p.at < p.until → IsPlaced s levels vs (Some p) → vs ≡ run_value p.at (slice_range s p.at p.until) ∷ []
+pub word_alone : (s : List ℕ) (levels : ℕ) (vs : List Value) (p : Extent) → p.at < p.until → IsPlaced s levels vs (Some p) → vs ≡ run_value p.at (slice_range s p.at p.until) ∷ []
 word_alone s levels vs p lt there =
     let word = slice_range s p.at p.until in
     there.2 ∙ ap (λ v. bare v ∷ []) (there.3.1 lt) ∙ ap (λ v. v ∷ []) (bare_run p.at word)
 
 -- an element at a kept place is the only value under its key
-alone : ElementsAreUnique → (s : List ℕ) (levels : ℕ) (vs : List Value) (p : Place) (v : Value) (used : ℕ) → levels ≤ 64 → IsPlaced s levels vs (Some p) →
+alone : ElementsAreUnique → (s : List ℕ) (levels : ℕ) (vs : List Value) (p : Extent) (v : Value) (used : ℕ) → levels ≤ 64 → IsPlaced s levels vs (Some p) →
     bare v ≡ v → Element 2 p.at (drop p.at s) v used (drop used s) → vs ≡ v ∷ []
 alone unique s levels vs p v used few there whole here =
     let same : there.0 ≡ v = (unique levels 2 p.at there.1 used (drop p.at s) (drop there.1 s) (drop used s) there.0 v few (omega arith) there.3.0 here).0 in
@@ -103,21 +103,21 @@ parts_alone keyed vs w key v one parts = parts_like keyed vs w key v v one parts
 pair_said : (k v : Value) (key : Spelled) → bare k ≡ k → said_of k ≡ Some key → parts_said true (vector (values_of (k ∷ v ∷ []))) ≡ Some (key, bare v)
 pair_said k v key whole says = ap (λ x. option_map (λ s. (s, bare v)) (said_of x)) whole ∙ ap (option_map (λ s. (s, bare v))) says
 
-pair_there : ElementsAreUnique → (s : List ℕ) (levels most : ℕ) (vs : List Value) (p : Place) (key : Spelled) (v : Value) (used : ℕ) → levels ≤ 64 → most ≤ 64 →
+pair_there : ElementsAreUnique → (s : List ℕ) (levels most : ℕ) (vs : List Value) (p : Extent) (key : Spelled) (v : Value) (used : ℕ) → levels ≤ 64 → most ≤ 64 →
     IsPlaced s levels vs (Some p) → (pair : IsPair most s p.at key v used) → vs ≡ vector (values_of (pair.0 ∷ v ∷ [])) ∷ []
 pair_there unique s levels most vs p key v used few low there pair =
     let whole = vector (values_of (pair.0 ∷ v ∷ [])) in
     let same : there.0 ≡ whole = (unique levels most p.at there.1 used (drop p.at s) (drop there.1 s) (drop used s) there.0 whole few low there.3.0 pair.3).0 in
     there.2 ∙ ap (λ w. bare w ∷ []) same
 
-pub pair_parts : ElementsAreUnique → (s : List ℕ) (levels : ℕ) (vs : List Value) (p : Place) (key : Spelled) (v : Value) (used : ℕ) → levels ≤ 64 → IsPlaced s levels vs (Some p) →
+pub pair_parts : ElementsAreUnique → (s : List ℕ) (levels : ℕ) (vs : List Value) (p : Extent) (key : Spelled) (v : Value) (used : ℕ) → levels ≤ 64 → IsPlaced s levels vs (Some p) →
     bare v ≡ v → IsPair 2 s p.at key v used → AreParts true vs key v
 pair_parts unique s levels vs p key v used few there whole pair =
     parts_alone true vs (vector (values_of (pair.0 ∷ v ∷ []))) key v (pair_there unique s levels 2 vs p key v used few (omega arith) there pair)
     (pair_said pair.0 v key pair.1 pair.2 ∙ ap (λ w. Some (key, w)) whole)
 
 -- where the value is nil or an item
-pub plain_pair_parts : ElementsAreUnique → (s : List ℕ) (levels : ℕ) (vs : List Value) (p : Place) (key : Spelled) (v : Value) (o : Option Spelled) (used : ℕ) → levels ≤ 64 →
+pub plain_pair_parts : ElementsAreUnique → (s : List ℕ) (levels : ℕ) (vs : List Value) (p : Extent) (key : Spelled) (v : Value) (o : Option Spelled) (used : ℕ) → levels ≤ 64 →
     IsPlaced s levels vs (Some p) → bare v ≡ v → plain_of v ≡ Some o → IsPair 2 s p.at key v used → AreParts true vs key (value_of o)
 plain_pair_parts unique s levels vs p key v o used few there whole plain pair =
     parts_like true vs (vector (values_of (pair.0 ∷ v ∷ []))) key v (value_of o) (pair_there unique s levels 2 vs p key v used few (omega arith) there pair)
@@ -129,12 +129,12 @@ word_parts vs v one = parts_alone false vs v (said.number (pos 0)) v one refl
 pub plain_parts : (vs : List Value) (v : Value) (o : Option Spelled) → vs ≡ v ∷ [] → plain_of v ≡ Some o → AreParts false vs (said.number (pos 0)) (value_of o)
 plain_parts vs v o one plain = parts_like false vs v (said.number (pos 0)) v (value_of o) one refl (plain_tells v o plain)
 
-pub value_parts : ElementsAreUnique → (s : List ℕ) (levels : ℕ) (vs : List Value) (p : Place) (v : Value) (used : ℕ) → levels ≤ 64 → IsPlaced s levels vs (Some p) →
+pub value_parts : ElementsAreUnique → (s : List ℕ) (levels : ℕ) (vs : List Value) (p : Extent) (v : Value) (used : ℕ) → levels ≤ 64 → IsPlaced s levels vs (Some p) →
     bare v ≡ v → Element 2 p.at (drop p.at s) v used (drop used s) → AreParts false vs (said.number (pos 0)) v
 value_parts unique s levels vs p v used few there whole here = word_parts vs v (alone unique s levels vs p v used few there whole here)
 
 -- a string
-pub string_parts : ElementsAreUnique → (s : List ℕ) (levels : ℕ) (vs : List Value) (p : Place) (v : Value) (key : Spelled) (used : ℕ) → levels ≤ 64 → IsPlaced s levels vs (Some p) →
+pub string_parts : ElementsAreUnique → (s : List ℕ) (levels : ℕ) (vs : List Value) (p : Extent) (v : Value) (key : Spelled) (used : ℕ) → levels ≤ 64 → IsPlaced s levels vs (Some p) →
     bare v ≡ v → said_of v ≡ Some key → Element 2 p.at (drop p.at s) v used (drop used s) → AreParts false vs (said.number (pos 0)) (value_of (Some key))
 string_parts unique s levels vs p v key used few there whole says here =
     plain_parts vs v (Some key) (alone unique s levels vs p v used few there whole here) (said_plain v key says)
@@ -158,7 +158,7 @@ no_name (map es) n h = refl
 no_name (tagged at w v) n h = refl
 
 -- no key stands twice
-few : (s : List ℕ) (levels : ℕ) (vs : List Value) (o : Option Place) → IsPlaced s levels vs o → is_several vs ≡ false
+few : (s : List ℕ) (levels : ℕ) (vs : List Value) (o : Option Extent) → IsPlaced s levels vs o → is_several vs ≡ false
 few s levels vs None p = ap is_several p
 few s levels vs (Some at) p = ap is_several p.2
 
@@ -179,7 +179,7 @@ named_under : (m : Reading) (v : Value) (ts fs vs : List Value) → is_by_keywor
 named_under m v ts fs vs h a b c = rw (a, b, c, h) refl
 
 -- a usual map of the nemesis
-pub usual_named : (m : Reading) (s : List ℕ) (levels : ℕ) (es : Entries) (ps : Places) (v : Value) → ArePlaced s levels es ps →
+pub usual_named : (m : Reading) (s : List ℕ) (levels : ℕ) (es : Entries) (ps : ValueExtents) (v : Value) → ArePlaced s levels es ps →
     under (codes ":process") es ≡ v ∷ [] → is_by_keyword (v ∷ []) ≡ true → event m (map es) ≡ Ok None
 usual_named m s levels es ps v are first named =
     rw first (named_under m v (under (codes ":type") es) (under (codes ":f") es) (under (codes ":value") es) named
@@ -187,13 +187,13 @@ usual_named m s levels es ps v are first named =
     (few s levels (under (codes ":value") es) ps.value are.values))
 
 -- the parts of a value at which nothing but a pair's key is looked
-pub key_parts : ElementsAreUnique → (s : List ℕ) (levels : ℕ) (vs : List Value) (p : Place) (key : Spelled) (v : Value) (used : ℕ) → levels ≤ 64 → IsPlaced s levels vs (Some p) →
+pub key_parts : ElementsAreUnique → (s : List ℕ) (levels : ℕ) (vs : List Value) (p : Extent) (key : Spelled) (v : Value) (used : ℕ) → levels ≤ 64 → IsPlaced s levels vs (Some p) →
     IsPair 63 s p.at key v used → AreParts true vs key (bare v)
 key_parts unique s levels vs p key v used few there pair =
     parts_alone true vs (vector (values_of (pair.0 ∷ v ∷ []))) key (bare v) (pair_there unique s levels 63 vs p key v used few (omega arith) there pair)
     (pair_said pair.0 v key pair.1 pair.2)
 
-pub whole_parts : (s : List ℕ) (levels : ℕ) (vs : List Value) (p : Place) → IsPlaced s levels vs (Some p) → AreParts false vs (said.number (pos 0)) (or_nil vs)
+pub whole_parts : (s : List ℕ) (levels : ℕ) (vs : List Value) (p : Extent) → IsPlaced s levels vs (Some p) → AreParts false vs (said.number (pos 0)) (or_nil vs)
 whole_parts s levels vs p there = (few s levels vs (Some p) there, or_nil vs, refl, λ m t f. refl)
 
 -- values with a key and nil

@@ -10,7 +10,7 @@ mod values;
 
 pub use follow::{Follow, FollowFault, faults_stay, streams_are_unique};
 pub use lin_events::{
-    Body, Call, Cause, Event, IntSet, Item, Items, Meter, Name, OutOfMemory, Reply, Shape, Status,
+    Body, Call, Cause, Event, IntSet, Item, Items, Meter, Name, OutOfMemory, Reply, Shape, ProcessStatus,
     Val,
 };
 pub use lin_names::Names;

@@ -43,18 +43,18 @@ pub(crate) struct Taken {
 
 /// Where a value begins, and where the run there ends: where it begins, if the value is no run.
 #[derive(Clone, Copy)]
-struct Place {
+struct Extent {
     at: usize,
     until: usize,
 }
 
 /// The values of the keys that count.
 #[derive(Clone, Copy)]
-struct Places {
-    process: Option<Place>,
-    event_type: Option<Place>,
-    function: Option<Place>,
-    value: Option<Place>,
+struct ValueExtents {
+    process: Option<Extent>,
+    event_type: Option<Extent>,
+    function: Option<Extent>,
+    value: Option<Extent>,
 }
 
 /// What a map says besides the key and the value, where it is an event.
@@ -74,7 +74,7 @@ enum Process {
 }
 
 /// Keeps the value of a key that stands once; else nothing, which is told.
-fn put(slot: &mut Option<Place>, place: Place) -> bool
+fn put(slot: &mut Option<Extent>, place: Extent) -> bool
     ensures { result ≡ true → (slot.old ≡ None) × (slot.new ≡ Some place) }
 {
     if slot.is_some() {
@@ -85,7 +85,7 @@ fn put(slot: &mut Option<Place>, place: Place) -> bool
 }
 
 /// Keeps the value of a key that counts, unless one stands there.
-fn keep(places: &mut Places, key: &[u8], place: Place) -> bool
+fn keep(places: &mut ValueExtents, key: &[u8], place: Extent) -> bool
     ensures { result ≡ true → (p : ℕ) → IsAdded places.old (run_value p key.now) place places.new }
 {
     if is_same(key, b":process") {
@@ -104,7 +104,7 @@ fn keep(places: &mut Places, key: &[u8], place: Place) -> bool
 }
 
 /// The usual value at a place, with so many levels at most, and where it ends; that place where none stands there.
-fn usual_value(text: &[u8], at: usize, end: usize, levels: usize) -> (Place, usize)
+fn usual_value(text: &[u8], at: usize, end: usize, levels: usize) -> (Extent, usize)
     requires begun { at ≤ end }
     requires inside { end ≤ length text.now }
     ensures at { result.0.at ≡ at }
@@ -112,7 +112,7 @@ fn usual_value(text: &[u8], at: usize, end: usize, levels: usize) -> (Place, usi
     ensures value { at < result.1 → (v : Value) × IsValueAt text.now levels result.0 v result.1 }
 {
     let until = run_until(text, at, end);
-    let place = Place { at, until };
+    let place = Extent { at, until };
     if until > at {
         return (place, until);
     }
@@ -121,7 +121,7 @@ fn usual_value(text: &[u8], at: usize, end: usize, levels: usize) -> (Place, usi
 
 /// Takes the usual entry at a place, whose value has so many levels at most, and tells where it ends; that place where none stands there.
 #[inline(always)]
-fn take_entry(text: &[u8], from: usize, end: usize, levels: usize, places: &mut Places) -> usize
+fn take_entry(text: &[u8], from: usize, end: usize, levels: usize, places: &mut ValueExtents) -> usize
     requires begun { from ≤ end }
     requires inside { end ≤ length text.now }
     ensures within { (from ≤ result) × (result ≤ end) }
@@ -144,14 +144,14 @@ fn take_entry(text: &[u8], from: usize, end: usize, levels: usize, places: &mut 
 
 /// The usual map whose opening byte stands at a place, with so many levels inside at most, and where it ends.
 #[inline(never)]
-fn usual_map(text: &[u8], from: usize, end: usize, levels: usize) -> Option<(Places, usize)>
+fn usual_map(text: &[u8], from: usize, end: usize, levels: usize) -> Option<(ValueExtents, usize)>
     requires begun { from < end }
     requires inside { end ≤ length text.now }
     requires opens { slice_index text.now from ≡ 123 }
     ensures within { IfSome result (λ r. (from < r.1) × (r.1 ≤ end)) }
     ensures map { IfSome result (λ r. IsMapAt text.now from levels r.0 r.1) }
 {
-    let mut places = Places {
+    let mut places = ValueExtents {
         process: None,
         event_type: None,
         function: None,
@@ -172,7 +172,7 @@ fn usual_map(text: &[u8], from: usize, end: usize, levels: usize) -> Option<(Pla
 }
 
 /// The word of a value that is a run.
-fn word_of<'a>(text: &'a [u8], place: Place) -> Option<&'a [u8]>
+fn word_of<'a>(text: &'a [u8], place: Extent) -> Option<&'a [u8]>
     ensures { IfSome result (λ word. (levels : ℕ) (vs : List Value) → IsPlaced text.entry.now levels vs (Some place) → vs ≡ run_value place.at word.now ∷ []) }
 {
     if place.until <= place.at {
@@ -204,7 +204,7 @@ fn parts_at<'a>(
     alloc: Global,
     keyed: bool,
     text: &'a [u8],
-    place: Place,
+    place: Extent,
 ) -> Option<(Said<'a>, Edn<'a>)>
     ensures { IfSome result (λ r. (levels : ℕ) (vs : List Value) → levels ≤ 64 → IsPlaced text.entry.now levels vs (Some place) → AreParts keyed vs (seen r.0) (view r.1)) }
 {
@@ -222,7 +222,7 @@ fn parts_at<'a>(
 
 /// Nil or the item that the only value under a key says, which stands at a place.
 #[inline(always)]
-fn plain_of(text: &[u8], place: Place) -> Option<Plain<'_>>
+fn plain_of(text: &[u8], place: Extent) -> Option<Plain<'_>>
     ensures { IfSome result (λ plain. (levels : ℕ) (vs : List Value) → levels ≤ 64 → IsPlaced text.entry.now levels vs (Some place) → AreParts false vs (seen (said.Int (pos 0))) (value_of (plain_view plain))) }
 {
     elements_are_unique();
@@ -239,7 +239,7 @@ fn plain_of(text: &[u8], place: Place) -> Option<Plain<'_>>
 /// The object's key and the value that a map says whose `:value` stands at a place, or nowhere, where that value is nil or an item:
 /// no element has to be built.
 #[inline(always)]
-fn plain_parts(keyed: bool, text: &[u8], place: Option<Place>) -> Option<(Said<'_>, Plain<'_>)>
+fn plain_parts(keyed: bool, text: &[u8], place: Option<Extent>) -> Option<(Said<'_>, Plain<'_>)>
     ensures { IfSome result (λ r. (levels : ℕ) (vs : List Value) → levels ≤ 64 → IsPlaced text.entry.now levels vs place → AreParts keyed vs (seen r.0) (value_of (plain_view r.1))) }
 {
     elements_are_unique();
@@ -285,7 +285,7 @@ fn event_given(
 }
 
 /// The object's key that a map says whose `:value` stands at a place: 0 without keys, else that of a pair. The value is passed over.
-fn key_alone(keyed: bool, text: &[u8], place: Place) -> Option<Said<'_>>
+fn key_alone(keyed: bool, text: &[u8], place: Extent) -> Option<Said<'_>>
     ensures { IfSome result (λ key. (levels : ℕ) (vs : List Value) → levels ≤ 64 → IsPlaced text.entry.now levels vs (Some place) → (v : Value) × AreParts keyed vs (seen key) v) }
 {
     elements_are_unique();
@@ -302,7 +302,7 @@ fn valueless_event(
     keyed: bool,
     text: &[u8],
     doing: Doing,
-    place: Place,
+    place: Extent,
     names: &mut Names,
 ) -> Option<Option<Event>>
     requires { (m : Reading) (v : Value) (w : Value) → body_of m doing.event_type doing.name v ≡ body_of m doing.event_type doing.name w }
@@ -323,7 +323,7 @@ fn element_event(
     keyed: bool,
     text: &[u8],
     doing: Doing,
-    place: Option<Place>,
+    place: Option<Extent>,
     names: &mut Names,
 ) -> Option<Option<Event>>
     ensures begun { Begins names.old names.new }
@@ -345,7 +345,7 @@ fn usual_event(
     alloc: Global,
     keyed: bool,
     text: &[u8],
-    places: Places,
+    places: ValueExtents,
     names: &mut Names,
 ) -> Option<Option<Event>>
     ensures begun { Begins names.old names.new }

@@ -12,7 +12,7 @@ use Rattle.lin_line.specs.declared.misuse.NoLine.{NoLine}
 use Rattle.lin_line.specs.declared.misuse.NoLine.TheVariants.{NoOrder, TwoOrders, Unsaid}
 use Rattle.lin_line.specs.declared.words.Line.{Line}
 use Rattle.lin_line.specs.declared.words.Line.TheVariants.{Verify}
-use Rattle.lin_line.specs.declared.words.Order.TheVariants.{Given, InFile}
+use Rattle.lin_line.specs.declared.words.OrderSource.TheVariants.{Given, InFile}
 
 last_of : Text → List Text → Text
 last_of x [] = x

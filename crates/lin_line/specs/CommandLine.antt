@@ -20,8 +20,8 @@ use Rattle.lin_line.specs.declared.misuse.NoLine.{NoLine}
 use Rattle.lin_line.specs.declared.misuse.NoLine.TheVariants.{NoOrder, TwoOrders, InputTwice, NoKey, Unsaid}
 use Rattle.lin_line.specs.declared.words.Format.{Format}
 use Rattle.lin_line.specs.declared.words.Format.TheVariants as format
-use Rattle.lin_line.specs.declared.words.Order.{Order}
-use Rattle.lin_line.specs.declared.words.Order.TheVariants.{Given, InFile}
+use Rattle.lin_line.specs.declared.words.OrderSource.{OrderSource}
+use Rattle.lin_line.specs.declared.words.OrderSource.TheVariants.{Given, InFile}
 use Rattle.lin_line.specs.declared.words.Line.{Line}
 use Rattle.lin_line.specs.declared.words.Line.TheVariants.{Verify, Check, Explain, Draw, Edit}
 
@@ -180,7 +180,7 @@ EndInOrder words = (names : List Text) × (text : Text) × (words ≡ names ++ t
 
 -- The order and the names of files that words say: where an order file is named, each word names a file, and the last of several isn't the
 -- text of an order; else the last word is the order.
-abbrev pub SayOrder : List Text → Option Text → Order → List Text → Type 0
+abbrev pub SayOrder : List Text → Option Text → OrderSource → List Text → Type 0
 SayOrder words (Some name) (InFile path) files = (path.now ≡ name) × (files ≡ words) × (EndInOrder words → ⊥)
 SayOrder words None (Given order) files = words ≡ files ++ order.now ∷ []
 SayOrder words _ _ files = ⊥

@@ -12,7 +12,7 @@ mod words;
 
 use clap::Error;
 use std::alloc::{AllocError, Global};
-pub use words::{Format, Line, Order};
+pub use words::{Format, Line, OrderSource};
 
 /// What a command line says, the program's name first.
 ///

@@ -3,12 +3,12 @@ ghost use Rattle.std.specs.Prelude.{◌≡◌, ◌<◌, ◌≤◌, ◌^◌, ◌�
 ghost use Rattle.clap.specs.Words.{first_of, found_of, rows_of};
 ghost use Rattle.lin_texts.specs.Orders.{order_written};
 ghost use Rattle.lin_line.specs.declared.words.Line.TheVariants as LineOf;
-ghost use Rattle.lin_line.specs.declared.words.Order.TheVariants as OrderOf;
+ghost use Rattle.lin_line.specs.declared.words.OrderSource.TheVariants as OrderOf;
 ghost use Rattle.lin_line.specs.CommandLine.{is_given as given, EndInOrder, GivesKey, GivesLast, HasSettings, IsLeast, IsUnsaid, LacksKey, LacksSettings, SpellsCount, Says, texts_of};
 ghost use Rattle.lin_line.specs.CommandLine as said;
 
 use crate::misuse::NoLine;
-use crate::words::{Format, Line, Order};
+use crate::words::{Format, Line, OrderSource};
 use clap::ArgMatches;
 use lin_names::{Names, Said, names_grow};
 use lin_texts::{OrderFault, Settings, item_in, kind_named, read_order};
@@ -271,7 +271,7 @@ fn verify_given<'a>(settings: Settings, words: Vec<&'a str>) -> Result<Line<'a>,
     match files.pop() {
         Some(order) if !files.is_empty() => Ok(Line::Verify {
             settings,
-            order: Order::Given(order),
+            order: OrderSource::Given(order),
             files,
         }),
         _ => Err(NoLine::NoOrder),
@@ -296,7 +296,7 @@ fn verify_in_file<'a>(
     }
     Ok(Line::Verify {
         settings,
-        order: Order::InFile(name),
+        order: OrderSource::InFile(name),
         files: words,
     })
 }

@@ -14,7 +14,7 @@ pub enum Format {
 
 /// Where an order is found.
 #[derive(Clone, Copy, Debug, PartialEq, Eq)]
-pub enum Order<'a> {
+pub enum OrderSource<'a> {
     /// In the command line: its text.
     Given(&'a str),
     /// In the file of this name.
@@ -64,7 +64,7 @@ pub enum Line<'a> {
         /// The kind of the objects, how files are read, and the budget.
         settings: Settings,
         /// The order.
-        order: Order<'a>,
+        order: OrderSource<'a>,
         /// The files' names, one at least.
         files: Vec<&'a str>,
     },

@@ -8,7 +8,7 @@ ghost use Rattle.lin_members.specs.Members.{Member as MemberOf};
 use indexmap::IndexMap;
 use lin_events::OutOfMemory;
 use lin_frontier::{Config, Pending, copy_config};
-use lin_members::{Member, Places, covers};
+use lin_members::{Member, MemberPlaces, covers};
 use lin_objects::SeqObject;
 use std::alloc::Global;
 use std::hash::{FoldHasher, Hash, Hasher};
@@ -34,7 +34,7 @@ pub struct Gathered<O: SeqObject> {
     /// Their configurations.
     configs: IndexMap<Config<O::State>, ()>,
     /// Where they stand, by their keys.
-    places: Places,
+    places: MemberPlaces,
 }
 
 impl<O: SeqObject> Model for Gathered<O> {
@@ -59,7 +59,7 @@ impl<O: SeqObject> Gathered<O> {
         Gathered {
             members: Vec::new(alloc),
             configs: IndexMap::new(alloc),
-            places: Places::new(),
+            places: MemberPlaces::new(),
         }
     }
 

@@ -6,7 +6,7 @@ use lin_events::Call;
 
 /// What changed with the end of an operation.
 #[derive(Clone, Copy)]
-pub(crate) struct End {
+pub(crate) struct EndChange {
     /// It was open.
     pub(crate) closed: Option<Closed>,
     /// It paid this.
@@ -31,7 +31,7 @@ pub(crate) enum Change {
         before: Option<Running>,
     },
     /// An operation ended that acquires.
-    Acquired(End),
+    Acquired(EndChange),
     /// An operation ended that releases.
-    Released(End),
+    Released(EndChange),
 }

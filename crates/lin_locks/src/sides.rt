@@ -10,7 +10,7 @@ ghost use Rattle.lin_locks.specs.inner.Known.{Part, part_of};
 ghost use Rattle.lin_locks.specs.inner.Room.{HasKept, Holds};
 ghost use Rattle.lin_locks.specs.inner.Sides.{AreEarly, IsClosed, IsGone, IsUnpayable};
 
-use crate::changes::End;
+use crate::changes::EndChange;
 use lin_events::OutOfMemory;
 use std::alloc::Global;
 
@@ -68,7 +68,7 @@ pub(crate) fn fill(order: &mut Vec<Option<usize>>, place: usize, begin: usize)
 }
 
 /// The order is what it was before the end of an operation.
-pub(crate) fn reorder(order: &mut Vec<Option<usize>>, end: &End)
+pub(crate) fn reorder(order: &mut Vec<Option<usize>>, end: &EndChange)
     ensures { order.new.items ≡ order_before end.now order.old.items }
 {
     order.truncate(end.length);
@@ -275,7 +275,7 @@ impl Side {
     }
 
     /// It is what it was before the end of one of its operations, for which there is room.
-    pub(crate) fn resume(&mut self, end: &End)
+    pub(crate) fn resume(&mut self, end: &EndChange)
         ensures back { Holds self.old (before_end end.now (part_of self.old)) → part_of self.new ≡ before_end end.now (part_of self.old) }
         ensures kept { HasKept self.old self.new }
     {

@@ -8,7 +8,7 @@ ghost use Rattle.lin_events.specs.declared.events.Body.TheVariants.{Invoke as In
 ghost use Rattle.lin_objects.specs.declared.kinds.Kind.TheVariants.{Mutex};
 ghost use Rattle.lin_orders.specs.Linearizable.{IsLegalOrderAs};
 ghost use Rattle.lin_locks.specs.declared.changes.Change.{Change as ChangeOf};
-ghost use Rattle.lin_locks.specs.declared.changes.End.{End as EndOf};
+ghost use Rattle.lin_locks.specs.declared.changes.EndChange.{EndChange as EndOf};
 ghost use Rattle.lin_locks.specs.declared.standings.Turn.TheVariants as Turned;
 ghost use Rattle.lin_locks.specs.inner.Changes.{AreAsBefore, IsUndone, invoked, before_end, before_invocation, before_owing, order_before, undone};
 ghost use Rattle.lin_locks.specs.inner.Debts.{lock_call};
@@ -18,7 +18,7 @@ ghost use Rattle.lin_locks.specs.inner.Room.{HasKept, HasKeptBoth, Holds, HoldsB
 ghost use Rattle.lin_locks.specs.inner.Sides.{AreEarly, IsOwingAt, IsPaying, IsStanding};
 ghost use Rattle.lin_locks.specs.inner.Turns.{GoesOn, HasPlaces, IsFailing, IsRight, TurnsDown, TurnsOn};
 
-use crate::changes::{Change, End};
+use crate::changes::{Change, EndChange};
 use crate::latest::{Latest, Running};
 use crate::sides::{Closed, Debt, Paid, Side, Withdrawal, fill, reorder};
 use lin_events::{Body, Call, Event, OutOfMemory, Reply, well_formed_is_alternating};
@@ -29,9 +29,9 @@ use std::alloc::Global;
 #[derive(Clone, Copy)]
 pub(crate) enum Turn {
     /// It was owed, and changes nothing.
-    Pays(End),
+    Pays(EndChange),
     /// It stands last.
-    Stands(End),
+    Stands(EndChange),
     /// It would stand last, and what would be owed for it can't be paid.
     Fails,
 }
@@ -59,7 +59,7 @@ fn append(order: &mut Vec<Option<usize>>, owes: bool, begin: usize)
 }
 
 /// Takes in that an operation of the one side's call returns and stands last; one of the other side may be owed for it.
-fn stand(own: &mut Side, order: &mut Vec<Option<usize>>, returned: Return, owes: bool) -> End
+fn stand(own: &mut Side, order: &mut Vec<Option<usize>>, returned: Return, owes: bool) -> EndChange
     requires { vec_len order.old + 2 ≤ vec_capacity order.old }
     ensures stands { AreEarly returned.begin own.old.debts.items → IsStanding returned.begin (part_of own.old) (part_of own.new) }
     ensures order { order.new.items ≡ (if owes then order.old.items ++ None ∷ [] else order.old.items) ++ Some returned.begin ∷ [] }
@@ -72,7 +72,7 @@ fn stand(own: &mut Side, order: &mut Vec<Option<usize>>, returned: Return, owes:
     let length = order.len();
     let closed = own.close(returned.begin);
     append(order, owes, returned.begin);
-    End {
+    EndChange {
         closed,
         paid: None,
         owes,
@@ -104,7 +104,7 @@ fn turned(
     let length = order.len();
     if let Some((closed, paid)) = own.pay(returned.begin) {
         fill(order, paid.debt.slot, returned.begin);
-        return Ok(Turn::Pays(End {
+        return Ok(Turn::Pays(EndChange {
             closed,
             paid: Some(paid),
             owes: false,
@@ -315,10 +315,10 @@ impl Standing {
     }
 
     /// What changed with an operation that failed, of which this was closed.
-    fn failed(&self, closed: Option<Closed>) -> End
+    fn failed(&self, closed: Option<Closed>) -> EndChange
         ensures { result ≡ record { closed = closed; paid = None; owes = false; held = self.now.held; length = length self.now.order.items } }
     {
-        End {
+        EndChange {
             closed,
             paid: None,
             owes: false,

@@ -33,7 +33,7 @@ pub use overwritten_laws::{
     overwritten_are_sound, overwritten_can_go, rounds_allow_overwritten, rounds_go_ahead,
 };
 pub use parts::{key, pruned_many};
-pub use places::Places;
+pub use places::MemberPlaces;
 pub use pool::Pool;
 pub use round_laws::{
     members_are_exact, rounds_after_events, rounds_spell_members, rounds_take_operations,

@@ -5,7 +5,7 @@ use std::alloc::Global;
 
 /// The places of the first members of a list, by their keys.
 #[derive(Drop)]
-pub struct Places {
+pub struct MemberPlaces {
     /// None where no member was noted: most searches note none, and move this.
     by_key: Option<Box<IndexMap<u64, Vec<usize>>>>,
     count: usize,
@@ -32,10 +32,10 @@ fn put_place(
     }
 }
 
-impl Places {
+impl MemberPlaces {
     /// Of no member.
     pub fn new() -> Self {
-        Places {
+        MemberPlaces {
             by_key: None,
             count: 0,
         }

@@ -11,7 +11,7 @@ use Rattle.lin_names.specs.Spelled.{Spelled}
 use Rattle.lin_orders.specs.declared.placed.Placed.{Placed}
 use Rattle.lin_possible.specs.After.{IsWay}
 use Rattle.lin_possible.specs.Possible.{AreShown}
-use Rattle.lin_words.specs.declared.tables.Entry.{Entry}
+use Rattle.lin_words.specs.declared.tables.ListLine.{ListLine}
 use Rattle.lin_outcomes.specs.Ranks.{IsRisingBy, rank_cmp}
 use Rattle.lin_outcomes.specs.Outcomes.{AreAll, IsEntry, IsListing}
 use Rattle.lin_outcomes.specs.Words.{leading_to}
@@ -114,10 +114,10 @@ module _ {T : Type 0} (shows : List Placed → T → Type 0) (rank : T → ℕ �
   abbrev IsShown : T × ℕ → Type 0
   IsShown e = (order : List Placed) × IsWay by.possible.now e.1 order × shows order e.0
 
-  abbrev IsLine : T → Entry → Type 0
+  abbrev IsLine : T → ListLine → Type 0
   IsLine what entry = IsEntry by.names.now shows words (leading_to by.call) by.events.now what entry
 
-  line_of : (e : T × ℕ) (t : Told) (entry : Entry) → IsShown e → IsTold by.names.now rank words e t → Leads by t entry → IsLine e.0 entry
+  line_of : (e : T × ℕ) (t : Told) (entry : ListLine) → IsShown e → IsTold by.names.now rank words e t → Leads by t entry → IsLine e.0 entry
   line_of e t entry s is leads = record {
     told = leads.same ∙ is.worded;
     order = s.0;
@@ -125,7 +125,7 @@ module _ {T : Type 0} (shows : List Placed → T → Type 0) (rank : T → ℕ �
     after = leads.after s.0 (subst (λ w. IsWay by.possible.now w s.0) (sym is.way) s.1);
   }
 
-  pub lines_of : (most : ℕ) (found : List (T × ℕ)) (told : List Told) (entries : List Entry) → All IsShown found → AllZip (IsTold by.names.now rank words) found told → AllZip (Leads by) (take most told) entries
+  pub lines_of : (most : ℕ) (found : List (T × ℕ)) (told : List Told) (entries : List ListLine) → All IsShown found → AllZip (IsTold by.names.now rank words) found told → AllZip (Leads by) (take most told) entries
       → AllZip IsLine (take most (map (λ (e : T × ℕ). e.0) found)) entries
   lines_of zero found told [] s zip leads = tt
   lines_of zero found told (entry ∷ entries) s zip leads = absurd leads

@@ -13,7 +13,7 @@ use Rattle.lin_objects.specs.declared.states.State.{State}
 use Rattle.lin_orders.specs.declared.placed.Placed.{Placed}
 use Rattle.lin_possible.specs.Possible.{Answers, LeavesIn}
 use Rattle.lin_words.specs.Values.{state_text}
-use Rattle.lin_words.specs.declared.tables.Entry.{Entry}
+use Rattle.lin_words.specs.declared.tables.ListLine.{ListLine}
 use Rattle.lin_outcomes.specs.declared.listing.Listed.{Listed}
 use Rattle.lin_outcomes.specs.declared.outcomes.Before.{Before}
 use Rattle.lin_outcomes.specs.declared.outcomes.Outcomes.{Outcomes}
@@ -43,7 +43,7 @@ pub record AreAll {T : Type 0} (shows : List Placed → T → Type 0) (rank : T 
   pub rising : IsRisingBy rank all
 
 -- of all of them the first, at most so many, and how many there are
-pub record IsListing {T : Type 0} (is_entry : T → Entry → Type 0) (most : ℕ) (all : List T) (listed : Listed) : Type 0 where
+pub record IsListing {T : Type 0} (is_entry : T → ListLine → Type 0) (most : ℕ) (all : List T) (listed : Listed) : Type 0 where
   pub counted : listed.count ≡ length all
   pub entries : AllZip is_entry (take most all) listed.entries.items
 
@@ -54,7 +54,7 @@ most_of (Some reply) = 3
 
 module _ (names : List (List ℕ)) where
   -- its words, and the last operations that some order which shows it has ahead
-  pub record IsEntry {T : Type 0} (shows : List Placed → T → Type 0) (words : T → List ℕ) (ahead : List Placed → List Placed) (h : List Event) (what : T) (entry : Entry) : Type 0 where
+  pub record IsEntry {T : Type 0} (shows : List Placed → T → Type 0) (words : T → List ℕ) (ahead : List Placed → List Placed) (h : List Event) (what : T) (entry : ListLine) : Type 0 where
     pub told : entry.words.items ≡ words what
     pub order : List Placed
     pub shown : shows order what

@@ -8,13 +8,13 @@ use crate::told::Told;
 use lin_events::{Event, OutOfMemory};
 use lin_names::Names;
 use lin_possible::Possible;
-use lin_words::Entry;
+use lin_words::ListLine;
 use std::alloc::Global;
 
 /// What was possible: how many there are, and the first of them.
 #[derive(Drop)]
 pub struct Listed {
-    pub entries: Vec<Entry>,
+    pub entries: Vec<ListLine>,
     pub count: usize,
 }
 
@@ -29,7 +29,7 @@ pub(crate) struct Leading<'a> {
 }
 
 /// The line of a state or a reply.
-fn entry_of(alloc: Global, leading_by: &Leading, told: &Told) -> Result<Entry, OutOfMemory>
+fn entry_of(alloc: Global, leading_by: &Leading, told: &Told) -> Result<ListLine, OutOfMemory>
     ensures { IfOk result (λ entry. Leads leading_by.now told.now entry) }
 {
     let order = leading_by.possible.order(alloc, told.way)?;
@@ -41,11 +41,11 @@ fn entry_of(alloc: Global, leading_by: &Leading, told: &Told) -> Result<Entry, O
         leading(order.as_slice(), leading_by.call),
     )?;
     let words = Vec::from_slice(alloc, told.words.as_slice())?;
-    Ok(Entry { words, after })
+    Ok(ListLine { words, after })
 }
 
 /// Their lines.
-fn entries_of(alloc: Global, leading_by: &Leading, told: &[Told]) -> Result<Vec<Entry>, OutOfMemory>
+fn entries_of(alloc: Global, leading_by: &Leading, told: &[Told]) -> Result<Vec<ListLine>, OutOfMemory>
     ensures { IfOk result (λ entries. AllZip (Leads leading_by.now) told.now entries.items) }
 {
     let mut entries = Vec::new(alloc);

@@ -13,11 +13,11 @@ use Rattle.lin_texts.specs.declared.faults.RunFault.TheVariants.{ReadFailed, Out
 use Rattle.lin_texts.specs.declared.settings.Settings.{Settings}
 use Rattle.lin_line.specs.declared.words.Line.{Line}
 use Rattle.lin_line.specs.declared.words.Line.TheVariants.{Check, Explain, Draw, Verify, Edit}
-use Rattle.lin_line.specs.declared.words.Order.{Order}
-use Rattle.lin_line.specs.declared.words.Order.TheVariants.{Given, InFile}
+use Rattle.lin_line.specs.declared.words.OrderSource.{OrderSource}
+use Rattle.lin_line.specs.declared.words.OrderSource.TheVariants.{Given, InFile}
 use Rattle.lin_program.specs.Exit.{SystemWords, exit_status}
 use Rattle.lin_program.specs.Reporting.{AreAmong, AreReported, Holds, IsNotOpened, stopped}
-use Rattle.lin_report.specs.declared.formats.Format.TheVariants.{Text}
+use Rattle.lin_report.specs.declared.formats.ReportFormat.TheVariants.{Text}
 use Rattle.lin_program.specs.Tasks.{HasBudget, format_among, heading_in, report_format}
 use Rattle.lin_program.specs.declared.endings.Stop.{Stop}
 use Rattle.lin_program.specs.declared.endings.Stop.TheVariants.{NotOpened, Fault}
@@ -97,7 +97,7 @@ module _ {S F C O : Type 0} (system : SystemWords S F C O) (held : F → Option 
       ⊎ ((stop : Stop) × (outcome ≡ Err stop) × IsUnreadIn system held commanded now name stop)
 
   -- the order, which is said or in a file, is judged of the files of these names
-  abbrev pub IsVerifiedBy : Settings → Order → List (List ℕ) → Result Status Stop → Type 0
+  abbrev pub IsVerifiedBy : Settings → OrderSource → List (List ℕ) → Result Status Stop → Type 0
   IsVerifiedBy settings (Given text) files outcome = AreReported system held commanded now written (λ several. IsVerifyRun settings text.now) (λ several. heading_in Text) files outcome
   IsVerifiedBy settings (InFile name) files outcome = IsVerifiedFrom settings name.now files outcome
 

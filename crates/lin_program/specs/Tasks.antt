@@ -4,8 +4,8 @@ use Rattle.lin_json.specs.Answers.{file_front}
 use Rattle.lin_report.specs.Explanations.{IsExplainRun}
 use Rattle.lin_report.specs.Pictures.{IsDrawRun}
 use Rattle.lin_report.specs.Reports.{IsCheckRun}
-use Rattle.lin_report.specs.declared.formats.Format.{Format as ReportFormat}
-use Rattle.lin_report.specs.declared.formats.Format.TheVariants as report
+use Rattle.lin_report.specs.declared.formats.ReportFormat.{ReportFormat as ReportFormat}
+use Rattle.lin_report.specs.declared.formats.ReportFormat.TheVariants as report
 use Rattle.lin_formats.specs.Verdicts.{IsVerifyRun}
 use Rattle.lin_texts.specs.declared.status.Status.{Status}
 use Rattle.lin_texts.specs.declared.faults.RunFault.{RunFault}

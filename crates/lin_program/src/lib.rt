@@ -18,7 +18,7 @@ use clap::error::ErrorKind;
 use endings::{FAILED, LINE_REFUSED, Stop, stopped};
 pub use endings::{exit_of, exit_of_refusal};
 use lin_formats::{Counted, Refusal, RunFault, Settings, Status, refusal_words};
-use lin_line::{Line, Order, line};
+use lin_line::{Line, OrderSource, line};
 use lin_report::{Question, run as edit};
 use orders::{bytes_in, without_line_end};
 use reporting::report_all;
@@ -59,18 +59,18 @@ fn verify_all<'a, S: System>(
     alloc: Global,
     system: &S,
     settings: Settings,
-    order: Order<'a>,
+    order: OrderSource<'a>,
     files: &[&'a str],
 ) -> Result<Status, Stop<'a>>
     requires { HasBudget settings }
     ensures { IsVerifiedBy S.words S.File.remaining S.Commands.remaining S.Out.contents system.now settings order.entry (map (λ n. n.now) files.now) result }
 {
     match order {
-        Order::Given(text) => {
+        OrderSource::Given(text) => {
             let task = Task::Verify(settings, text.as_bytes());
             report_all(alloc, system, task, files, &mut Vec::new(alloc))
         }
-        Order::InFile(name) => verify_from(alloc, system, settings, name, files),
+        OrderSource::InFile(name) => verify_from(alloc, system, settings, name, files),
     }
 }
 

@@ -6,7 +6,7 @@ ghost use Rattle.lin_program.specs.Tasks.{HasBudget, IsTaskRun, format_among, he
 
 use lin_formats::{Counted, RunFault, Settings, Status, verify};
 use lin_json::put_file_front;
-use lin_line::Format;
+use lin_line::ReportFormat;
 use lin_names::Said;
 use lin_report::{Question, check, draw, explain};
 use std::alloc::{AllocError, Global};
@@ -16,7 +16,7 @@ use std::io::{Read, Write};
 #[derive(Clone, Copy)]
 pub enum Task<'a> {
     /// It is decided whether the history is linearizable.
-    Check(Settings, lin_report::Format),
+    Check(Settings, lin_report::ReportFormat),
     /// It is told why the answer is what it is.
     Explain(Settings, Question<'a>),
     /// The history is drawn, or the object of this key: up to so many operations, if that is said.
@@ -42,7 +42,7 @@ impl<'a> Task<'a> {
     {
         match self {
             Task::Check(_, format) => put_heading_in(text, *format, name),
-            _ => put_heading_in(text, lin_report::Format::Text, name),
+            _ => put_heading_in(text, lin_report::ReportFormat::Text, name),
         }
     }
 
@@ -72,11 +72,11 @@ impl<'a> Task<'a> {
 }
 
 /// One of several reports follows what names its file.
-fn among(several: bool, format: lin_report::Format) -> lin_report::Format
+fn among(several: bool, format: lin_report::ReportFormat) -> lin_report::ReportFormat
     ensures { result ≡ format_among several format }
 {
     match (several, format) {
-        (true, lin_report::Format::Json) => lin_report::Format::Rest,
+        (true, lin_report::ReportFormat::Json) => lin_report::ReportFormat::Rest,
         _ => format,
     }
 }
@@ -84,12 +84,12 @@ fn among(several: bool, format: lin_report::Format) -> lin_report::Format
 /// Puts last what names a file: a line, or the beginning of a map.
 fn put_heading_in(
     text: &mut Vec<u8>,
-    format: lin_report::Format,
+    format: lin_report::ReportFormat,
     name: &str,
 ) -> Result<(), AllocError>
     ensures { OnOk result (text.new.items ≡ text.old.items ++ heading_in format name.now) }
 {
-    if let lin_report::Format::Rest = format {
+    if let lin_report::ReportFormat::Rest = format {
         return put_file_front(text, name.as_bytes());
     }
     text.extend_from_slice(b"file ")?;
@@ -99,11 +99,11 @@ fn put_heading_in(
 }
 
 /// The way of printing that a command line names.
-pub fn report_format(format: Format) -> lin_report::Format
+pub fn report_format(format: ReportFormat) -> lin_report::ReportFormat
     ensures { result ≡ format_of format }
 {
     match format {
-        Format::Text => lin_report::Format::Text,
-        Format::Json => lin_report::Format::Json,
+        ReportFormat::Text => lin_report::ReportFormat::Text,
+        ReportFormat::Json => lin_report::ReportFormat::Json,
     }
 }

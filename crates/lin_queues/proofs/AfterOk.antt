@@ -28,7 +28,7 @@ use Rattle.lin_events.specs.lemmas.OneMore.{one_call}
 use Rattle.lin_orders.specs.Orders.{IsCall}
 use Rattle.lin_orders.specs.lemmas.Opening.{end_back, one_of_process, others_open}
 use Rattle.lin_queues.specs.declared.elements.Element.{Element}
-use Rattle.lin_queues.specs.declared.opens.Open.{Open}
+use Rattle.lin_queues.specs.declared.opens.OpenCall.{OpenCall}
 use Rattle.lin_queues.specs.Gathering.{IsReturning, MayPay, MayTake, MayTakeEarly}
 use Rattle.lin_queues.specs.Opens.{AreOpen}
 use Rattle.lin_queues.specs.Members.{View, Told, IsInside, AreOwed, owed}
@@ -115,7 +115,7 @@ module _ (functions : Item → Name → Bool) (h : List Event) (event : Event) (
 
   -- after an ok of a dequeue with an item
   module _ (law : DequeuedLaw) (unique : EndsAreUnique) (alternating : WellFormedIsAlternating) (all : List Element) (item : Item) (end : ℕ)
-      (ends : (i : ℕ) (x : Element) → slice_get all i ≡ Some x → x.item ≡ item → i < end) (open' : List Open) (are_open : AreOpen (with_event h event) open')
+      (ends : (i : ℕ) (x : Element) → slice_get all i ≡ Some x → x.item ≡ item → i < end) (open' : List OpenCall) (are_open : AreOpen (with_event h event) open')
       (returning : IsReturning functions h event place Dequeue (Value (Held item)) whole order all) (told : Told whole order (length h) all v) where
     -- a call of the events so far is one of the whole
     lifted : (at : ℕ) (call : Call) → IsCall h at call → IsCall whole at call
@@ -167,7 +167,7 @@ module _ (functions : Item → Name → Bool) (h : List Event) (event : Event) (
             cc
 
     pub may_be : ((at : ℕ) × MayPay whole order (length (with_event h event)) all v place item at) ⊎ (((at : ℕ) × (at < end) × MayTake whole order (length (with_event h event)) all v time item at)
-        ⊎ ((k : ℕ) × (o : Open) × (slice_get open' k ≡ Some o) × (o.call ≡ Enqueue item) × MayTakeEarly whole order (length (with_event h event)) all v time o.place))
+        ⊎ ((k : ℕ) × (o : OpenCall) × (slice_get open' k ≡ Some o) × (o.call ≡ Enqueue item) × MayTakeEarly whole order (length (with_event h event)) all v time o.place))
     may_be = elim dequeued [
       | paid element due there before call follows ↦
           let m = length (with_event h event) in

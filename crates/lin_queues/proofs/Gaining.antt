@@ -4,8 +4,8 @@ use Rattle.std.proofs.lemmas.Bool.{false≢true}
 use Rattle.lin_events.specs.declared.events.Event.{Event}
 use Rattle.lin_queues.specs.declared.elements.Element.{Element}
 use Rattle.lin_queues.specs.declared.gathered.Gathered.{Gathered}
-use Rattle.lin_queues.specs.declared.members.Member.{Member}
-use Rattle.lin_queues.specs.declared.opens.Open.{Open}
+use Rattle.lin_queues.specs.declared.members.QueueMember.{QueueMember}
+use Rattle.lin_queues.specs.declared.opens.OpenCall.{OpenCall}
 use Rattle.lin_queues.specs.Gains.{AreGathered, Gains}
 use Rattle.lin_queues.specs.Members.{AreUnpaid, IsAtLeast, View, view_of}
 use Rattle.lin_queues.specs.Opens.{AreDequeues, AreOpen}
@@ -35,7 +35,7 @@ gains_as a b P Q more gains = record {
   full = gains.full;
 }
 
-pub gathered_none : (members : List Member) (open' : List Open) (next : Gathered) (R : View → View → Type 0) → next.members.items ≡ [] → next.is_full ≡ false
+pub gathered_none : (members : List QueueMember) (open' : List OpenCall) (next : Gathered) (R : View → View → Type 0) → next.members.items ≡ [] → next.is_full ≡ false
     → ((h : List Event) → AreOpen h open' → AreDequeues h next.dequeues.items) → AreGathered members open' next R
 gathered_none members open' next R none not_full paying = record {
   each = λ n there. absurd (empty n (subst (λ l. Contains l n) none there));
@@ -44,13 +44,13 @@ gathered_none members open' next R none not_full paying = record {
   dequeues = paying;
 }
   where
-    empty : (m : Member) → Contains [] m → ⊥
+    empty : (m : QueueMember) → Contains [] m → ⊥
     empty m there = (let l = there.1 in omega arith)
 
-    nowhere : (i : ℕ) (m : Member) → slice_get [] i ≡ Some m → ⊥
+    nowhere : (i : ℕ) (m : QueueMember) → slice_get [] i ≡ Some m → ⊥
     nowhere i m at = empty m (contains_from_get [] i m at)
 
-pub gathered_more : (members : List Member) (open' : List Open) (b c : Gathered) (R : View → View → Type 0) (m : Member) → Contains members m → c.dequeues ≡ b.dequeues
+pub gathered_more : (members : List QueueMember) (open' : List OpenCall) (b c : Gathered) (R : View → View → Type 0) (m : QueueMember) → Contains members m → c.dequeues ≡ b.dequeues
     → Gains b c (R (view_of m)) → AreGathered members open' b R → AreGathered members open' c R
 gathered_more members open' b c R m is same gains gathered = record {
   each = λ n there. elim (gains.each n there) [
@@ -63,15 +63,15 @@ gathered_more members open' b c R m is same gains gathered = record {
 }
 
 -- the events with one more come to each member that was gathered
-pub made_next : (members : List Member) (open' : List Open) (next : Gathered) (R : View → View → Type 0) (h after : List Event) (all more : List Element) → AreGathered members open' next R → AreOpen after open'
-    → ((m : Member) → Contains members m → Reached h all (view_of m)) → ((v w : View) → Reached h all v → R v w → IsPayable after w → Reached after more w)
-    → (n : Member) → Contains next.members.items n → Reached after more (view_of n)
+pub made_next : (members : List QueueMember) (open' : List OpenCall) (next : Gathered) (R : View → View → Type 0) (h after : List Event) (all more : List Element) → AreGathered members open' next R → AreOpen after open'
+    → ((m : QueueMember) → Contains members m → Reached h all (view_of m)) → ((v w : View) → Reached h all v → R v w → IsPayable after w → Reached after more w)
+    → (n : QueueMember) → Contains next.members.items n → Reached after more (view_of n)
 made_next members open' next R h after all more gathered opened made step n there =
     let from = gathered.each n there in
     step (view_of from.0) (view_of n) (made from.0 from.1) from.2 (next.dequeues.items, gathered.dequeues after opened, from.3)
 
-pub too_many : (members : List Member) (open' : List Open) (next : Gathered) (R : View → View → Type 0) (after : List Event) (more : List Element) → AreGathered members open' next R → IsTrue next.is_full
-    → ((n : Member) → Contains next.members.items n → Reached after more (view_of n)) → AreTooMany after
+pub too_many : (members : List QueueMember) (open' : List OpenCall) (next : Gathered) (R : View → View → Type 0) (after : List Event) (more : List Element) → AreGathered members open' next R → IsTrue next.is_full
+    → ((n : QueueMember) → Contains next.members.items n → Reached after more (view_of n)) → AreTooMany after
 too_many members open' next R after more gathered is_full made = record {
   all = more;
   views = map view_of next.members.items;
@@ -83,6 +83,6 @@ too_many members open' next R after more gathered is_full made = record {
       gathered.apart i j m.0 n.0 m.1 n.1 differ (subst (λ x. IsAtLeast x (view_of n.0)) (sym m.2) (subst (IsAtLeast v) (sym n.2) least));
 }
   where
-    length_views : (xs : List Member) → length (map view_of xs) ≡ length xs
+    length_views : (xs : List QueueMember) → length (map view_of xs) ≡ length xs
     length_views [] = refl
     length_views (x ∷ xs) = ap suc (length_views xs)

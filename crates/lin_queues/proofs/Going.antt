@@ -25,8 +25,8 @@ use Rattle.lin_debts.specs.Debts.{IsWhole}
 use Rattle.lin_debts.specs.Laws.{BeginningLaw, Completes, FailLaw, InfoLaw, InvocationLaw, NoneLaw}
 use Rattle.lin_queues.specs.declared.debts.Debts.{Debts}
 use Rattle.lin_queues.specs.declared.elements.Element.{Element}
-use Rattle.lin_queues.specs.declared.members.Member.{Member}
-use Rattle.lin_queues.specs.declared.opens.Open.{Open}
+use Rattle.lin_queues.specs.declared.members.QueueMember.{QueueMember}
+use Rattle.lin_queues.specs.declared.opens.OpenCall.{OpenCall}
 use Rattle.lin_queues.specs.Engines.{AreDebtsOf, AreElements, IsCompleting}
 use Rattle.lin_queues.specs.Gathering.{HaveReturned, IsCovered, IsReturning}
 use Rattle.lin_queues.specs.Members.{AreEnqueues, Told, view_of}
@@ -39,7 +39,7 @@ use Rattle.lin_queues.proofs.Telling.{told_on}
 -- members that tell of each legal order
 pub goes_on : (next : Debts) (h : List Event) (full : Bool) → full ≡ false → 0 < length next.members.items → next.reached ≡ length h → AreElements h next.elements → AreOpen h next.pending.items
     → ((whole : List Event) (order : List Placed) → IsWhole h whole order → IsCovered whole order (length h) next.elements.all.items next.members.items full)
-    → ((m : Member) → Contains next.members.items m → Reached h next.elements.all.items (view_of m)) → AreDebtsOf next h
+    → ((m : QueueMember) → Contains next.members.items m → Reached h next.elements.all.items (view_of m)) → AreDebtsOf next h
 goes_on next h full not_full left reached elements opened covered made = record {
   reached = reached;
   elements = elements;
@@ -53,44 +53,44 @@ goes_on next h full not_full left reached elements opened covered made = record 
 }
 
 -- no member
-pub has_failed : NoneLaw → (h : List Event) (all : List Element) (members : List Member) (full : Bool) → full ≡ false → members ≡ []
+pub has_failed : NoneLaw → (h : List Event) (all : List Element) (members : List QueueMember) (full : Bool) → full ≡ false → members ≡ []
     → ((whole : List Event) (order : List Placed) → IsWhole h whole order → IsCovered whole order (length h) all members full) → IsLinearizableAs Fifo h → ⊥
 has_failed law h all members full not_full none covered = law h (λ whole order is_whole. elim (covered whole order is_whole) [
   | inl is_full ↦ absurd (false≢true (sym not_full ∙ is_full))
   | inr found ↦ absurd (empty found.0 (subst (λ l. Contains l found.0) none found.1))
 ])
   where
-    empty : (m : Member) → Contains [] m → ⊥
+    empty : (m : QueueMember) → Contains [] m → ⊥
     empty m there = (let l = there.1 in omega arith)
 
 module _ (beginning : BeginningLaw) (h : List Event) (event : Event) where
   -- a legal order is told of ahead of the event
   pub was_told : (debts : Debts) → AreDebtsOf debts h → (whole : List Event) (order : List Placed) → IsWhole (with_event h event) whole order
-      → (m : Member) × Contains debts.members.items m × Told whole order (length h) debts.elements.all.items (view_of m)
+      → (m : QueueMember) × Contains debts.members.items m × Told whole order (length h) debts.elements.all.items (view_of m)
   was_told debts are whole order is_whole = are.told whole order (beginning h event whole order is_whole)
 
   pub told_invoked : InvocationLaw → (call : Call) → event.body ≡ Invoke call → (debts : Debts) → AreDebtsOf debts h → (whole : List Event) (order : List Placed) → IsWhole (with_event h event) whole order
-      → (m : Member) × Contains debts.members.items m × Told whole order (length (with_event h event)) debts.elements.all.items (view_of m)
+      → (m : QueueMember) × Contains debts.members.items m × Told whole order (length (with_event h event)) debts.elements.all.items (view_of m)
   told_invoked law call is debts are whole order is_whole =
       let was = was_told debts are whole order is_whole in
       (was.0, was.1, told_on whole order (length h) debts.elements.all.items (view_of was.0) was.2 (length (with_event h event)) (law h event call whole order was.2.debtor is is_whole was.2.follows))
 
   pub told_informed : InfoLaw → (name : Name) → event.body ≡ Info name → (debts : Debts) → AreDebtsOf debts h → (whole : List Event) (order : List Placed) → IsWhole (with_event h event) whole order
-      → (m : Member) × Contains debts.members.items m × Told whole order (length (with_event h event)) debts.elements.all.items (view_of m)
+      → (m : QueueMember) × Contains debts.members.items m × Told whole order (length (with_event h event)) debts.elements.all.items (view_of m)
   told_informed law name is debts are whole order is_whole =
       let was = was_told debts are whole order is_whole in
       (was.0, was.1, told_on whole order (length h) debts.elements.all.items (view_of was.0) was.2 (length (with_event h event)) (law h event name whole order was.2.debtor is is_whole was.2.follows))
 
   pub told_failed : FailLaw → (functions : Item → Name → Bool) (place : ℕ) (call : Call) (name : Name) → Completes functions h event place call → event.body ≡ Fail name → (debts : Debts) → AreDebtsOf debts h
       → (whole : List Event) (order : List Placed) → IsWhole (with_event h event) whole order
-      → (m : Member) × Contains debts.members.items m × (Contains (view_of m).early place → ⊥) × Told whole order (length (with_event h event)) debts.elements.all.items (view_of m)
+      → (m : QueueMember) × Contains debts.members.items m × (Contains (view_of m).early place → ⊥) × Told whole order (length (with_event h event)) debts.elements.all.items (view_of m)
   told_failed law functions place call name completes is debts are whole order is_whole =
       let was = was_told debts are whole order is_whole in
       let now = law functions h event place call name whole order was.2.debtor completes is is_whole was.2.follows in
       (was.0, was.1, (λ early. now.1 (subst (λ l. Contains l place) (sym was.2.early) early)), told_on whole order (length h) debts.elements.all.items (view_of was.0) was.2 (length (with_event h event)) now.0)
 
 -- the operation that the event completes
-pub completing : (h : List Event) (event : Event) (functions : Item → Name → Bool) → IsWellFormed functions (with_event h event) → (pending : List Open) → AreOpen h pending → (at : ℕ) (o : Open) → slice_get pending at ≡ Some o
+pub completing : (h : List Event) (event : Event) (functions : Item → Name → Bool) → IsWellFormed functions (with_event h event) → (pending : List OpenCall) → AreOpen h pending → (at : ℕ) (o : OpenCall) → slice_get pending at ≡ Some o
     → o.process ≡ event.process → Completes functions h event o.place o.call
 completing h event functions well_formed pending opened at o there same =
     let was = opened.sound at o there in
@@ -98,11 +98,11 @@ completing h event functions well_formed pending opened at o there same =
 
 -- and the list without it
 pub taken_off : WellFormedIsAlternating → EndsAreUnique → (functions : Item → Name → Bool) (h : List Event) (event : Event) (name : Name) → formed.Completes event.body name
-    → ((n : Name) × (reply : Reply) × (event.body ≡ Ok n reply)) ⊎ ((n : Name) × (event.body ≡ Fail n)) → IsWellFormed functions (with_event h event) → (pending : List Open) → AreOpen h pending → (at : ℕ) (o : Open) → slice_get pending at ≡ Some o
-    → o.process ≡ event.process → (rest : List Open) → rest ≡ remove pending at → (taken : Open) → taken ≡ get_or pending at taken → AreOpen (with_event h event) rest × Completes functions h event taken.place taken.call
+    → ((n : Name) × (reply : Reply) × (event.body ≡ Ok n reply)) ⊎ ((n : Name) × (event.body ≡ Fail n)) → IsWellFormed functions (with_event h event) → (pending : List OpenCall) → AreOpen h pending → (at : ℕ) (o : OpenCall) → slice_get pending at ≡ Some o
+    → o.process ≡ event.process → (rest : List OpenCall) → rest ≡ remove pending at → (taken : OpenCall) → taken ≡ get_or pending at taken → AreOpen (with_event h event) rest × Completes functions h event taken.place taken.call
 taken_off alternating unique functions h event name completes returned well_formed pending opened at o there same rest left taken is = (
   subst (AreOpen (with_event h event)) (sym left) (open_returned alternating unique functions h event pending name completes returned well_formed opened at o there same),
-  subst (λ (x : Open). Completes functions h event x.place x.call) (sym (is ∙ get_or_from_slice_get pending at o taken there)) (completing h event functions well_formed pending opened at o there same),
+  subst (λ (x : OpenCall). Completes functions h event x.place x.call) (sym (is ∙ get_or_from_slice_get pending at o taken there)) (completing h event functions well_formed pending opened at o there same),
 )
 
 -- the event returns this operation
@@ -125,7 +125,7 @@ module _ (debts : Debts) (functions : Item → Name → Bool) (h : List Event) (
   old_returned = returned_on h event debts.elements.all.items completing'.elements.returned
 
   pub as_before : BeginningLaw → (whole : List Event) (order : List Placed) → IsWhole (with_event h event) whole order
-      → (m : Member) × Contains debts.members.items m × Told whole order (length h) debts.elements.all.items (view_of m)
+      → (m : QueueMember) × Contains debts.members.items m × Told whole order (length h) debts.elements.all.items (view_of m)
   as_before beginning whole order is_whole = completing'.told whole order (beginning h event whole order is_whole)
 
   -- an element more
@@ -191,7 +191,7 @@ one_process h at p q key other call again first second = ap (λ (e : Event). e.p
 
 -- a completion is of a process that has an operation in the list
 pub some_open : (alternating : WellFormedIsAlternating) (unique : EndsAreUnique) (functions : Item → Name → Bool) (h : List Event) (event : Event) (name : Name) → formed.Completes event.body name → IsWellFormed functions (with_event h event)
-    → (pending : List Open) → AreOpen h pending → ((k : ℕ) (o : Open) → slice_get pending k ≡ Some o → o.process ≡ event.process → ⊥) → ⊥
+    → (pending : List OpenCall) → AreOpen h pending → ((k : ℕ) (o : OpenCall) → slice_get pending k ≡ Some o → o.process ≡ event.process → ⊥) → ⊥
 some_open alternating unique functions h event name completes well_formed pending opened missing =
     let alternates = (alternating functions (with_event h event)).0 well_formed in
     let ended = alternates.completed (length h) event name (get_last h event) completes in

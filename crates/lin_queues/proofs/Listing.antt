@@ -22,7 +22,7 @@ use Rattle.lin_lists.specs.lemmas.Lists.{get_left, get_cases, get_last}
 use Rattle.lin_debts.specs.Debts.{IsWhole}
 use Rattle.lin_queues.specs.declared.elements.Element.{Element}
 use Rattle.lin_queues.specs.declared.elements.Elements.{Elements}
-use Rattle.lin_queues.specs.declared.opens.Open.{Open}
+use Rattle.lin_queues.specs.declared.opens.OpenCall.{OpenCall}
 use Rattle.lin_queues.specs.Engines.{AreElements}
 use Rattle.lin_queues.specs.Gathering.{HaveReturned}
 use Rattle.lin_queues.specs.Members.{AreEnqueues}
@@ -30,7 +30,7 @@ use Rattle.lin_queues.specs.Opens.{AreOpen}
 use Rattle.lin_queues.proofs.Lists.{one_there, get_remove_cases, get_removed, get_appended}
 
 -- an invocation puts its operation last
-pub open_invoked : (h : List Event) (event : Event) (xs : List Open) (call : Call) (new : Open) → event.body ≡ Invoke call → new ≡ record { process = event.process; place = length h; call = call } → AreOpen h xs
+pub open_invoked : (h : List Event) (event : Event) (xs : List OpenCall) (call : Call) (new : OpenCall) → event.body ≡ Invoke call → new ≡ record { process = event.process; place = length h; call = call } → AreOpen h xs
     → AreOpen (with_event h event) (xs ++ new ∷ [])
 open_invoked h event xs call new is made listed = record {
   rising = λ j k o p before at_j at_k. elim (get_cases xs new k p at_k) [
@@ -41,23 +41,23 @@ open_invoked h event xs call new is made listed = record {
     | inr last ↦ elim (get_cases xs new j o at_j) [
       | inl old_j ↦ (
           let inside = slice_get_within h o.place _ (listed.sound j o old_j).1.begins in
-          let e = ap (λ (x : Open). x.place) (sym last.1 ∙ made) in
+          let e = ap (λ (x : OpenCall). x.place) (sym last.1 ∙ made) in
           omega (arith, e, inside))
       | inr other ↦ (let e = last.0 in let f = other.0 in absurd (omega arith))
     ]
   ];
   sound = λ k o there. elim (get_cases xs new k o there) [
     | inl old ↦ (let was = listed.sound k o old in (was.0, open_beside h event call is o.place o.process was.0 o.call was.1))
-    | inr last ↦ (event.key, subst (λ (x : Open). IsOpen (with_event h event) x.place x.process event.key x.call) (sym made ∙ last.1) (opens h event call is))
+    | inr last ↦ (event.key, subst (λ (x : OpenCall). IsOpen (with_event h event) x.place x.process event.key x.call) (sym made ∙ last.1) (opens h event call is))
   ];
   complete = λ place process key other is_open. elim (open_back h event place process key other is_open) [
     | inl old ↦ (let found = listed.complete place process key other old in (found.0, found.1, get_left xs new found.0 found.1 found.2, found.3))
-    | inr here ↦ (length xs, new, get_last xs new, ap (λ (x : Open). x.place) made ∙ sym here.0)
+    | inr here ↦ (length xs, new, get_last xs new, ap (λ (x : OpenCall). x.place) made ∙ sym here.0)
   ];
 }
 
 -- an info leaves them
-pub open_informed : (h : List Event) (event : Event) (xs : List Open) (name : Name) → event.body ≡ Info name → AreOpen h xs → AreOpen (with_event h event) xs
+pub open_informed : (h : List Event) (event : Event) (xs : List OpenCall) (name : Name) → event.body ≡ Info name → AreOpen h xs → AreOpen (with_event h event) xs
 open_informed h event xs name is listed = record {
   rising = listed.rising;
   sound = λ k o there. (
@@ -79,9 +79,9 @@ open_informed h event xs name is listed = record {
     no_invoke call e = cc
 
 -- after an ok or a fail its operation is listed no longer
-pub open_returned : (alternating : WellFormedIsAlternating) (unique : EndsAreUnique) (functions : Item → Name → Bool) (h : List Event) (event : Event) (xs : List Open) (name : Name) → Completes event.body name
+pub open_returned : (alternating : WellFormedIsAlternating) (unique : EndsAreUnique) (functions : Item → Name → Bool) (h : List Event) (event : Event) (xs : List OpenCall) (name : Name) → Completes event.body name
     → ((n : Name) × (reply : Reply) × (event.body ≡ Ok n reply)) ⊎ ((n : Name) × (event.body ≡ Fail n)) → IsWellFormed functions (with_event h event) → AreOpen h xs
-    → (at : ℕ) (o : Open) → slice_get xs at ≡ Some o → o.process ≡ event.process → AreOpen (with_event h event) (remove xs at)
+    → (at : ℕ) (o : OpenCall) → slice_get xs at ≡ Some o → o.process ≡ event.process → AreOpen (with_event h event) (remove xs at)
 open_returned alternating unique functions h event xs name completes returned well_formed listed at o there same = record {
   rising = λ j k x y before at_j at_k.
       let a = source j x at_j in
@@ -93,7 +93,7 @@ open_returned alternating unique functions h event xs name completes returned we
       (was.0, others_open h event unique functions alternates ended.0 ended.1 x.place x.process was.0 x.call (other s.0 x s.2 s.1) was.1);
   complete = λ n process key call is_open.
       let found = listed.complete n process key call (open_before h event unique functions alternates ended.0 ended.1 name completes n process key call is_open) in
-      let left = get_removed xs at found.0 found.1 (λ e. gone n process key call is_open (sym found.3 ∙ ap (λ (x : Open). x.place) (one_there xs at found.1 o (subst (λ k. slice_get xs k ≡ Some found.1) e found.2) there) ∙ is_ended)) found.2 in
+      let left = get_removed xs at found.0 found.1 (λ e. gone n process key call is_open (sym found.3 ∙ ap (λ (x : OpenCall). x.place) (one_there xs at found.1 o (subst (λ k. slice_get xs k ≡ Some found.1) e found.2) there) ∙ is_ended)) found.2 in
       (left.0, found.1, left.1, found.3);
 }
   where
@@ -109,7 +109,7 @@ open_returned alternating unique functions h event xs name completes returned we
         one_of_process h event unique functions alternates ended.0 ended.1 o.place was.0 o.call (subst (λ p. IsOpen h o.place p was.0 o.call) same was.1)
 
     -- the indices are rising, so their operations differ
-    apart : (j k : ℕ) (x y : Open) → slice_get xs j ≡ Some x → slice_get xs k ≡ Some y → j ≢ k → x.place ≢ y.place
+    apart : (j k : ℕ) (x y : OpenCall) → slice_get xs j ≡ Some x → slice_get xs k ≡ Some y → j ≢ k → x.place ≢ y.place
     apart j k x y at_j at_k differ = λ e. elim (cases_order j k) [
       | inl e' ↦ differ e'
       | inr either ↦ elim either [
@@ -118,10 +118,10 @@ open_returned alternating unique functions h event xs name completes returned we
       ]
     ]
 
-    other : (k : ℕ) (x : Open) → slice_get xs k ≡ Some x → k ≢ at → x.place ≢ ended.0
+    other : (k : ℕ) (x : OpenCall) → slice_get xs k ≡ Some x → k ≢ at → x.place ≢ ended.0
     other k x there_x differ e = apart k at x o there_x there differ (e ∙ sym is_ended)
 
-    source : (k : ℕ) (x : Open) → slice_get (remove xs at) k ≡ Some x → (s : ℕ) × (s ≢ at) × (slice_get xs s ≡ Some x) × (((k < at) × (s ≡ k)) ⊎ ((at ≤ k) × (s ≡ suc k)))
+    source : (k : ℕ) (x : OpenCall) → slice_get (remove xs at) k ≡ Some x → (s : ℕ) × (s ≢ at) × (slice_get xs s ≡ Some x) × (((k < at) × (s ≡ k)) ⊎ ((at ≤ k) × (s ≡ suc k)))
     source k x at_k = elim (get_remove_cases xs at k x at_k) [
       | inl before ↦ (k, (λ e. omega (arith, e, before.0)), before.1, inl (before.0, refl))
       | inr after ↦ (suc k, (λ e. omega (arith, e, after.0)), after.1, inr (after.0, refl))

@@ -14,7 +14,7 @@ use Rattle.lin_events.specs.declared.calls.Reply.{Reply}
 use Rattle.lin_debts.specs.Debts.{IsWhole}
 use Rattle.lin_debts.specs.Laws.{Completes}
 use Rattle.lin_queues.specs.declared.elements.Elements.{Elements}
-use Rattle.lin_queues.specs.declared.members.Member.{Member}
+use Rattle.lin_queues.specs.declared.members.QueueMember.{QueueMember}
 use Rattle.lin_queues.specs.declared.debts.Debts.{Debts}
 use Rattle.lin_queues.specs.Chains.{AreChained}
 use Rattle.lin_queues.specs.Gathering.{HaveReturned}
@@ -35,8 +35,8 @@ pub record AreDebtsOf (debts : Debts) (h : List Event) : Type 0 where
   pub elements : AreElements h debts.elements
   pub opened : AreOpen h debts.pending.items
   pub left : 0 < length debts.members.items
-  pub told : (whole : List Event) (order : List Placed) → IsWhole h whole order → (m : Member) × Contains debts.members.items m × Told whole order (length h) debts.elements.all.items (view_of m)
-  pub made : (m : Member) → Contains debts.members.items m → Reached h debts.elements.all.items (view_of m)
+  pub told : (whole : List Event) (order : List Placed) → IsWhole h whole order → (m : QueueMember) × Contains debts.members.items m × Told whole order (length h) debts.elements.all.items (view_of m)
+  pub made : (m : QueueMember) → Contains debts.members.items m → Reached h debts.elements.all.items (view_of m)
 
 -- the events so far are known, and the event completes this operation, which isn't listed any more
 pub record IsCompleting (debts : Debts) (functions : Item → Name → Bool) (h : List Event) (event : Event) (place : ℕ) (call : Call) (reply : Reply) : Type 0 where
@@ -46,8 +46,8 @@ pub record IsCompleting (debts : Debts) (functions : Item → Name → Bool) (h 
   pub reached : debts.reached ≡ length h
   pub elements : AreElements h debts.elements
   pub opened : AreOpen (with_event h event) debts.pending.items
-  pub told : (whole : List Event) (order : List Placed) → IsWhole h whole order → (m : Member) × Contains debts.members.items m × Told whole order (length h) debts.elements.all.items (view_of m)
-  pub made : (m : Member) → Contains debts.members.items m → Reached h debts.elements.all.items (view_of m)
+  pub told : (whole : List Event) (order : List Placed) → IsWhole h whole order → (m : QueueMember) × Contains debts.members.items m × Told whole order (length h) debts.elements.all.items (view_of m)
+  pub made : (m : QueueMember) → Contains debts.members.items m → Reached h debts.elements.all.items (view_of m)
 
 -- how many events were taken in
 abbrev pub reached_count : Debts → ℕ

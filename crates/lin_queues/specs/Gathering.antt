@@ -12,7 +12,7 @@ use Rattle.lin_orders.specs.ConfigurationLaws.{with_event}
 use Rattle.lin_debts.specs.Debts.{IsWhole}
 use Rattle.lin_debts.specs.Laws.{Completes}
 use Rattle.lin_queues.specs.declared.elements.Element.{Element}
-use Rattle.lin_queues.specs.declared.members.Member.{Member}
+use Rattle.lin_queues.specs.declared.members.QueueMember.{QueueMember}
 use Rattle.lin_queues.specs.declared.gathered.Gathered.{Gathered}
 use Rattle.std.specs.List.{remove}
 use Rattle.lin_queues.specs.declared.members.Debt.{Debt}
@@ -20,8 +20,8 @@ use Rattle.lin_queues.specs.Members.{AreEnqueues, AreOwed, Told, View, view_of}
 use Rattle.std.specs.Prelude.{Some, slice_get}
 
 -- some member tells of the order, or there were too many
-abbrev pub IsCovered : List Event → List Placed → ℕ → List Element → List Member → Bool → Type 0
-IsCovered whole order n all members full = IsTrue full ⊎ ((m : Member) × Contains members m × Told whole order n all (view_of m))
+abbrev pub IsCovered : List Event → List Placed → ℕ → List Element → List QueueMember → Bool → Type 0
+IsCovered whole order n all members full = IsTrue full ⊎ ((m : QueueMember) × Contains members m × Told whole order n all (view_of m))
 
 -- what was told of stays so
 abbrev pub Keeps : Gathered → Gathered → Type 0

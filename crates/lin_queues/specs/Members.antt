@@ -7,7 +7,7 @@ use Rattle.lin_orders.specs.Orders.{IsCall}
 use Rattle.lin_debts.specs.Debts.{Debtor, Follows, Owes}
 use Rattle.lin_queues.specs.declared.elements.Element.{Element}
 use Rattle.lin_queues.specs.declared.members.Debt.{Debt}
-use Rattle.lin_queues.specs.declared.members.Member.{Member}
+use Rattle.lin_queues.specs.declared.members.QueueMember.{QueueMember}
 
 -- what a member has
 pub record View : Type 0 where
@@ -17,7 +17,7 @@ pub record View : Type 0 where
   pub early : List ℕ
   pub emptied : ℕ
 
-abbrev pub view_of : Member → View
+abbrev pub view_of : QueueMember → View
 view_of m = record { low = m.low; gone = m.gone.items; debts = m.debts.items; early = m.early.items; emptied = m.emptied }
 
 -- the first member

@@ -13,7 +13,7 @@ use Rattle.lin_events.specs.Operations.{IsOpen}
 use Rattle.lin_orders.specs.ConfigurationLaws.{with_event}
 use Rattle.lin_queues.specs.declared.elements.Element.{Element}
 use Rattle.lin_queues.specs.declared.members.Debt.{Debt}
-use Rattle.lin_queues.specs.declared.opens.Open.{Open}
+use Rattle.lin_queues.specs.declared.opens.OpenCall.{OpenCall}
 use Rattle.lin_queues.specs.Members.{AreUnpaid, IsAtLeast, View, at_first, first_debt}
 use Rattle.lin_queues.specs.Opens.{AreDequeues, AreOpen}
 
@@ -65,15 +65,15 @@ pub record Takes (all : List Element) (item : Item) (time : ℕ) (v w : View) : 
   pub becomes : Sinks all element.place time (record v { gone = v.gone ++ at ∷ [] }) w
 
 -- or that of an open enqueue
-pub record TakesEarly (all : List Element) (open' : List Open) (item : Item) (time : ℕ) (v w : View) : Type 0 where
+pub record TakesEarly (all : List Element) (open' : List OpenCall) (item : Item) (time : ℕ) (v w : View) : Type 0 where
   pub at : ℕ
-  pub operation : Open
+  pub operation : OpenCall
   pub stands : slice_get open' at ≡ Some operation
   pub call : operation.call ≡ Enqueue item
   pub absent : Contains v.early operation.place → ⊥
   pub becomes : Sinks all operation.place time (record v { early = v.early ++ operation.place ∷ [] }) w
 
-pub data Finds (all : List Element) (open' : List Open) (dequeue : ℕ) (item : Item) (time : ℕ) (v w : View) : Type 0 where
+pub data Finds (all : List Element) (open' : List OpenCall) (dequeue : ℕ) (item : Item) (time : ℕ) (v w : View) : Type 0 where
   pays : Pays dequeue item v w → Finds all open' dequeue item time v w
   takes : Takes all item time v w → Finds all open' dequeue item time v w
   takes_early : TakesEarly all open' item time v w → Finds all open' dequeue item time v w
@@ -98,7 +98,7 @@ pub data Reached : List Event → List Element → View → Type 0 where
       → IsPayable (with_event h event) w → Reached (with_event h event) (all ++ new ∷ []) w
   found_nothing : {h : List Event} {all : List Element} {v w : View} (event : Event) (name : Name) (place : ℕ) (key : Item) → event.body ≡ Ok name (Value Nil)
       → IsOpen h place event.process key Dequeue → Reached h all v → FindsNothing all place (length h) v w → IsPayable (with_event h event) w → Reached (with_event h event) all w
-  found : {h : List Event} {all : List Element} {v w : View} (event : Event) (name : Name) (place : ℕ) (key item : Item) (open' : List Open) → event.body ≡ Ok name (Value (Held item))
+  found : {h : List Event} {all : List Element} {v w : View} (event : Event) (name : Name) (place : ℕ) (key item : Item) (open' : List OpenCall) → event.body ≡ Ok name (Value (Held item))
       → IsOpen h place event.process key Dequeue → AreOpen (with_event h event) open' → Reached h all v → Finds all open' place item (length h) v w
       → IsPayable (with_event h event) w → Reached (with_event h event) all w
 

@@ -17,8 +17,8 @@ ghost use Rattle.lin_queues.specs.Reaching.{AreTooMany};
 
 use crate::elements::Elements;
 use crate::gathered::Gathered;
-use crate::members::Member;
-use crate::opens::{Open, index_of};
+use crate::members::QueueMember;
+use crate::opens::{OpenCall, index_of};
 use crate::rounds::{after_fail, after_found, after_nothing, after_put};
 use crate::taking::Return;
 use lin_debts::{debts_after_events, debts_at_start, no_debts, other_ok_is_illegal};
@@ -29,7 +29,7 @@ use std::alloc::Global;
 
 /// What came of one more event.
 #[derive(Clone, Copy, Debug, PartialEq, Eq)]
-pub enum Taken {
+pub enum Progress {
     /// It was taken in.
     Next,
     /// The events up to and with it have no legal order.
@@ -47,8 +47,8 @@ pub enum Taken {
 pub struct Debts {
     reached: usize,
     elements: Elements,
-    pending: Vec<Open>,
-    members: Vec<Member>,
+    pending: Vec<OpenCall>,
+    members: Vec<QueueMember>,
 }
 
 /// What a reply found, if it is a dequeue's.
@@ -69,7 +69,7 @@ impl Debts {
     {
         debts_at_start();
         let mut members = Vec::new(alloc);
-        members.push(Member::new(alloc))?;
+        members.push(QueueMember::new(alloc))?;
         Ok(Debts {
             reached: 0,
             elements: Elements::new(alloc),
@@ -86,13 +86,13 @@ impl Debts {
     }
 
     /// Takes in one more event.
-    pub fn take_in(&mut self, alloc: Global, event: &Event) -> Result<Taken, OutOfMemory>
-        ensures next { result ≡ Ok Taken.Next → GoesOn self.old self.new event.now }
-        ensures fails { result ≡ Ok Taken.Fails → IsFailing self.old event.now }
-        ensures gives_up { result ≡ Ok Taken.GivesUp → IsCrowding self.old event.now }
+    pub fn take_in(&mut self, alloc: Global, event: &Event) -> Result<Progress, OutOfMemory>
+        ensures next { result ≡ Ok Progress.Next → GoesOn self.old self.new event.now }
+        ensures fails { result ≡ Ok Progress.Fails → IsFailing self.old event.now }
+        ensures gives_up { result ≡ Ok Progress.GivesUp → IsCrowding self.old event.now }
     {
         if self.reached == usize::MAX {
-            return Ok(Taken::GivesUp);
+            return Ok(Progress::GivesUp);
         }
         match &event.body {
             Body::Invoke(call) => self.invoke(event.process, *call),
@@ -103,43 +103,43 @@ impl Debts {
     }
 
     /// Takes in an invocation.
-    fn invoke(&mut self, process: u64, call: Call) -> Result<Taken, OutOfMemory>
+    fn invoke(&mut self, process: u64, call: Call) -> Result<Progress, OutOfMemory>
         requires { self.old.reached < usize.MAX }
-        ensures next { result ≡ Ok Taken.Next → (event : EventOf) → event.body ≡ Invokes call → event.process ≡ process → GoesOn self.old self.new event }
-        ensures stays { result ≡ Ok Taken.Fails → ⊥ }
-        ensures goes_on { result ≡ Ok Taken.GivesUp → ⊥ }
+        ensures next { result ≡ Ok Progress.Next → (event : EventOf) → event.body ≡ Invokes call → event.process ≡ process → GoesOn self.old self.new event }
+        ensures stays { result ≡ Ok Progress.Fails → ⊥ }
+        ensures goes_on { result ≡ Ok Progress.GivesUp → ⊥ }
     {
         debts_after_events();
         debts_at_start();
         let place = self.reached;
-        self.pending.push(Open {
+        self.pending.push(OpenCall {
             process,
             place,
             call,
         })?;
         self.reached += 1;
-        Ok(Taken::Next)
+        Ok(Progress::Next)
     }
 
     /// Takes in an info.
-    fn inform(&mut self) -> Taken
+    fn inform(&mut self) -> Progress
         requires { self.old.reached < usize.MAX }
         ensures next { (event : EventOf) (name : NameOf) → event.body ≡ Informs name → GoesOn self.old self.new event }
-        ensures stays { result ≡ Taken.Next }
+        ensures stays { result ≡ Progress.Next }
     {
         debts_after_events();
         debts_at_start();
         well_formed_is_alternating();
         self.reached += 1;
-        Taken::Next
+        Progress::Next
     }
 
     /// Takes in a fail.
-    fn fail(&mut self, alloc: Global, process: u64) -> Result<Taken, OutOfMemory>
+    fn fail(&mut self, alloc: Global, process: u64) -> Result<Progress, OutOfMemory>
         requires { self.old.reached < usize.MAX }
-        ensures next { result ≡ Ok Taken.Next → (event : EventOf) (name : NameOf) → event.body ≡ FailsOf name → event.process ≡ process → GoesOn self.old self.new event }
-        ensures fails { result ≡ Ok Taken.Fails → (event : EventOf) (name : NameOf) → event.body ≡ FailsOf name → event.process ≡ process → IsFailing self.old event }
-        ensures gives_up { result ≡ Ok Taken.GivesUp → (event : EventOf) (name : NameOf) → event.body ≡ FailsOf name → event.process ≡ process → IsCrowding self.old event }
+        ensures next { result ≡ Ok Progress.Next → (event : EventOf) (name : NameOf) → event.body ≡ FailsOf name → event.process ≡ process → GoesOn self.old self.new event }
+        ensures fails { result ≡ Ok Progress.Fails → (event : EventOf) (name : NameOf) → event.body ≡ FailsOf name → event.process ≡ process → IsFailing self.old event }
+        ensures gives_up { result ≡ Ok Progress.GivesUp → (event : EventOf) (name : NameOf) → event.body ≡ FailsOf name → event.process ≡ process → IsCrowding self.old event }
     {
         debts_after_events();
         debts_at_start();
@@ -147,7 +147,7 @@ impl Debts {
         ends_are_unique();
         well_formed_is_alternating();
         let Some(at) = index_of(self.pending.as_slice(), process) else {
-            return Ok(Taken::GivesUp);
+            return Ok(Progress::GivesUp);
         };
         let operation = self.pending.remove(at);
         let next = after_fail(
@@ -160,24 +160,24 @@ impl Debts {
     }
 
     /// Takes in an ok.
-    fn complete(&mut self, alloc: Global, process: u64, reply: &Reply) -> Result<Taken, OutOfMemory>
+    fn complete(&mut self, alloc: Global, process: u64, reply: &Reply) -> Result<Progress, OutOfMemory>
         requires { self.old.reached < usize.MAX }
-        ensures next { result ≡ Ok Taken.Next → (event : EventOf) (name : NameOf) → event.body ≡ Returns name reply.now → event.process ≡ process → GoesOn self.old self.new event }
-        ensures fails { result ≡ Ok Taken.Fails → (event : EventOf) (name : NameOf) → event.body ≡ Returns name reply.now → event.process ≡ process → IsFailing self.old event }
-        ensures gives_up { result ≡ Ok Taken.GivesUp → (event : EventOf) (name : NameOf) → event.body ≡ Returns name reply.now → event.process ≡ process → IsCrowding self.old event }
+        ensures next { result ≡ Ok Progress.Next → (event : EventOf) (name : NameOf) → event.body ≡ Returns name reply.now → event.process ≡ process → GoesOn self.old self.new event }
+        ensures fails { result ≡ Ok Progress.Fails → (event : EventOf) (name : NameOf) → event.body ≡ Returns name reply.now → event.process ≡ process → IsFailing self.old event }
+        ensures gives_up { result ≡ Ok Progress.GivesUp → (event : EventOf) (name : NameOf) → event.body ≡ Returns name reply.now → event.process ≡ process → IsCrowding self.old event }
     {
         ends_are_unique();
         well_formed_is_alternating();
         no_debts();
         other_ok_is_illegal();
         let Some(at) = index_of(self.pending.as_slice(), process) else {
-            return Ok(Taken::GivesUp);
+            return Ok(Progress::GivesUp);
         };
         let operation = self.pending.remove(at);
         match operation.call {
             Call::Enqueue(item) => self.enqueue(alloc, operation.place, item, reply),
             Call::Dequeue => self.dequeue(alloc, operation.place, reply),
-            _ => Ok(Taken::Fails),
+            _ => Ok(Progress::Fails),
         }
     }
 
@@ -188,26 +188,26 @@ impl Debts {
         place: usize,
         item: Item,
         reply: &Reply,
-    ) -> Result<Taken, OutOfMemory>
+    ) -> Result<Progress, OutOfMemory>
         requires { self.old.reached < usize.MAX }
-        ensures next { result ≡ Ok Taken.Next → (functions : ItemOf → NameOf → Bool) (h : List EventOf) (event : EventOf) → IsCompleting self.old functions h event place (Enqueues item) reply.now → AreDebtsOf self.new (with_event h event) }
-        ensures fails { result ≡ Ok Taken.Fails → (functions : ItemOf → NameOf → Bool) (h : List EventOf) (event : EventOf) → IsCompleting self.old functions h event place (Enqueues item) reply.now → IsLinearizableAs FifoOf (with_event h event) → ⊥ }
-        ensures gives_up { result ≡ Ok Taken.GivesUp → (functions : ItemOf → NameOf → Bool) (h : List EventOf) (event : EventOf) → IsCompleting self.old functions h event place (Enqueues item) reply.now → AreTooMany (with_event h event) }
+        ensures next { result ≡ Ok Progress.Next → (functions : ItemOf → NameOf → Bool) (h : List EventOf) (event : EventOf) → IsCompleting self.old functions h event place (Enqueues item) reply.now → AreDebtsOf self.new (with_event h event) }
+        ensures fails { result ≡ Ok Progress.Fails → (functions : ItemOf → NameOf → Bool) (h : List EventOf) (event : EventOf) → IsCompleting self.old functions h event place (Enqueues item) reply.now → IsLinearizableAs FifoOf (with_event h event) → ⊥ }
+        ensures gives_up { result ≡ Ok Progress.GivesUp → (functions : ItemOf → NameOf → Bool) (h : List EventOf) (event : EventOf) → IsCompleting self.old functions h event place (Enqueues item) reply.now → AreTooMany (with_event h event) }
     {
         no_debts();
         other_ok_is_illegal();
         match reply {
             Reply::Done => self.put(alloc, place, item),
-            _ => Ok(Taken::Fails),
+            _ => Ok(Progress::Fails),
         }
     }
 
     /// An ok of an enqueue that put its item in.
-    fn put(&mut self, alloc: Global, place: usize, item: Item) -> Result<Taken, OutOfMemory>
+    fn put(&mut self, alloc: Global, place: usize, item: Item) -> Result<Progress, OutOfMemory>
         requires { self.old.reached < usize.MAX }
-        ensures next { result ≡ Ok Taken.Next → (functions : ItemOf → NameOf → Bool) (h : List EventOf) (event : EventOf) → IsCompleting self.old functions h event place (Enqueues item) DoneOf → AreDebtsOf self.new (with_event h event) }
-        ensures fails { result ≡ Ok Taken.Fails → (functions : ItemOf → NameOf → Bool) (h : List EventOf) (event : EventOf) → IsCompleting self.old functions h event place (Enqueues item) DoneOf → IsLinearizableAs FifoOf (with_event h event) → ⊥ }
-        ensures gives_up { result ≡ Ok Taken.GivesUp → (functions : ItemOf → NameOf → Bool) (h : List EventOf) (event : EventOf) → IsCompleting self.old functions h event place (Enqueues item) DoneOf → AreTooMany (with_event h event) }
+        ensures next { result ≡ Ok Progress.Next → (functions : ItemOf → NameOf → Bool) (h : List EventOf) (event : EventOf) → IsCompleting self.old functions h event place (Enqueues item) DoneOf → AreDebtsOf self.new (with_event h event) }
+        ensures fails { result ≡ Ok Progress.Fails → (functions : ItemOf → NameOf → Bool) (h : List EventOf) (event : EventOf) → IsCompleting self.old functions h event place (Enqueues item) DoneOf → IsLinearizableAs FifoOf (with_event h event) → ⊥ }
+        ensures gives_up { result ≡ Ok Progress.GivesUp → (functions : ItemOf → NameOf → Bool) (h : List EventOf) (event : EventOf) → IsCompleting self.old functions h event place (Enqueues item) DoneOf → AreTooMany (with_event h event) }
     {
         debts_at_start();
         no_debts();
@@ -227,16 +227,16 @@ impl Debts {
     }
 
     /// An ok of a dequeue. With a reply that tells of no item no queue gives it.
-    fn dequeue(&mut self, alloc: Global, place: usize, reply: &Reply) -> Result<Taken, OutOfMemory>
+    fn dequeue(&mut self, alloc: Global, place: usize, reply: &Reply) -> Result<Progress, OutOfMemory>
         requires { self.old.reached < usize.MAX }
-        ensures next { result ≡ Ok Taken.Next → (functions : ItemOf → NameOf → Bool) (h : List EventOf) (event : EventOf) → IsCompleting self.old functions h event place Dequeues reply.now → AreDebtsOf self.new (with_event h event) }
-        ensures fails { result ≡ Ok Taken.Fails → (functions : ItemOf → NameOf → Bool) (h : List EventOf) (event : EventOf) → IsCompleting self.old functions h event place Dequeues reply.now → IsLinearizableAs FifoOf (with_event h event) → ⊥ }
-        ensures gives_up { result ≡ Ok Taken.GivesUp → (functions : ItemOf → NameOf → Bool) (h : List EventOf) (event : EventOf) → IsCompleting self.old functions h event place Dequeues reply.now → AreTooMany (with_event h event) }
+        ensures next { result ≡ Ok Progress.Next → (functions : ItemOf → NameOf → Bool) (h : List EventOf) (event : EventOf) → IsCompleting self.old functions h event place Dequeues reply.now → AreDebtsOf self.new (with_event h event) }
+        ensures fails { result ≡ Ok Progress.Fails → (functions : ItemOf → NameOf → Bool) (h : List EventOf) (event : EventOf) → IsCompleting self.old functions h event place Dequeues reply.now → IsLinearizableAs FifoOf (with_event h event) → ⊥ }
+        ensures gives_up { result ≡ Ok Progress.GivesUp → (functions : ItemOf → NameOf → Bool) (h : List EventOf) (event : EventOf) → IsCompleting self.old functions h event place Dequeues reply.now → AreTooMany (with_event h event) }
     {
         no_debts();
         other_ok_is_illegal();
         let Some(value) = value_of(reply) else {
-            return Ok(Taken::Fails);
+            return Ok(Progress::Fails);
         };
         match value {
             Val::Item(item) => self.find(alloc, place, item),
@@ -245,11 +245,11 @@ impl Debts {
     }
 
     /// An ok of a dequeue with an item.
-    fn find(&mut self, alloc: Global, place: usize, item: Item) -> Result<Taken, OutOfMemory>
+    fn find(&mut self, alloc: Global, place: usize, item: Item) -> Result<Progress, OutOfMemory>
         requires { self.old.reached < usize.MAX }
-        ensures next { result ≡ Ok Taken.Next → (functions : ItemOf → NameOf → Bool) (h : List EventOf) (event : EventOf) → IsCompleting self.old functions h event place Dequeues (Values (Held item)) → AreDebtsOf self.new (with_event h event) }
-        ensures fails { result ≡ Ok Taken.Fails → (functions : ItemOf → NameOf → Bool) (h : List EventOf) (event : EventOf) → IsCompleting self.old functions h event place Dequeues (Values (Held item)) → IsLinearizableAs FifoOf (with_event h event) → ⊥ }
-        ensures gives_up { result ≡ Ok Taken.GivesUp → (functions : ItemOf → NameOf → Bool) (h : List EventOf) (event : EventOf) → IsCompleting self.old functions h event place Dequeues (Values (Held item)) → AreTooMany (with_event h event) }
+        ensures next { result ≡ Ok Progress.Next → (functions : ItemOf → NameOf → Bool) (h : List EventOf) (event : EventOf) → IsCompleting self.old functions h event place Dequeues (Values (Held item)) → AreDebtsOf self.new (with_event h event) }
+        ensures fails { result ≡ Ok Progress.Fails → (functions : ItemOf → NameOf → Bool) (h : List EventOf) (event : EventOf) → IsCompleting self.old functions h event place Dequeues (Values (Held item)) → IsLinearizableAs FifoOf (with_event h event) → ⊥ }
+        ensures gives_up { result ≡ Ok Progress.GivesUp → (functions : ItemOf → NameOf → Bool) (h : List EventOf) (event : EventOf) → IsCompleting self.old functions h event place Dequeues (Values (Held item)) → AreTooMany (with_event h event) }
     {
         debts_at_start();
         no_debts();
@@ -270,11 +270,11 @@ impl Debts {
     }
 
     /// An ok of a dequeue that found nothing.
-    fn find_nothing(&mut self, alloc: Global, place: usize) -> Result<Taken, OutOfMemory>
+    fn find_nothing(&mut self, alloc: Global, place: usize) -> Result<Progress, OutOfMemory>
         requires { self.old.reached < usize.MAX }
-        ensures next { result ≡ Ok Taken.Next → (functions : ItemOf → NameOf → Bool) (h : List EventOf) (event : EventOf) → IsCompleting self.old functions h event place Dequeues (Values Nothing) → AreDebtsOf self.new (with_event h event) }
-        ensures fails { result ≡ Ok Taken.Fails → (functions : ItemOf → NameOf → Bool) (h : List EventOf) (event : EventOf) → IsCompleting self.old functions h event place Dequeues (Values Nothing) → IsLinearizableAs FifoOf (with_event h event) → ⊥ }
-        ensures gives_up { result ≡ Ok Taken.GivesUp → (functions : ItemOf → NameOf → Bool) (h : List EventOf) (event : EventOf) → IsCompleting self.old functions h event place Dequeues (Values Nothing) → AreTooMany (with_event h event) }
+        ensures next { result ≡ Ok Progress.Next → (functions : ItemOf → NameOf → Bool) (h : List EventOf) (event : EventOf) → IsCompleting self.old functions h event place Dequeues (Values Nothing) → AreDebtsOf self.new (with_event h event) }
+        ensures fails { result ≡ Ok Progress.Fails → (functions : ItemOf → NameOf → Bool) (h : List EventOf) (event : EventOf) → IsCompleting self.old functions h event place Dequeues (Values Nothing) → IsLinearizableAs FifoOf (with_event h event) → ⊥ }
+        ensures gives_up { result ≡ Ok Progress.GivesUp → (functions : ItemOf → NameOf → Bool) (h : List EventOf) (event : EventOf) → IsCompleting self.old functions h event place Dequeues (Values Nothing) → AreTooMany (with_event h event) }
     {
         debts_at_start();
         no_debts();
@@ -290,20 +290,20 @@ impl Debts {
     }
 
     /// Goes on with these members.
-    fn go_on(&mut self, next: Gathered) -> Taken
+    fn go_on(&mut self, next: Gathered) -> Progress
         requires { self.old.reached < usize.MAX }
-        ensures next { result ≡ Taken.Next → (next.is_full ≡ false) × (self.new ≡ record self.old { reached = self.old.reached + 1; members = next.members }) × (0 < length next.members.items) }
-        ensures fails { result ≡ Taken.Fails → (next.is_full ≡ false) × (next.members.items ≡ []) }
-        ensures gives_up { result ≡ Taken.GivesUp → IsTrue next.is_full }
+        ensures next { result ≡ Progress.Next → (next.is_full ≡ false) × (self.new ≡ record self.old { reached = self.old.reached + 1; members = next.members }) × (0 < length next.members.items) }
+        ensures fails { result ≡ Progress.Fails → (next.is_full ≡ false) × (next.members.items ≡ []) }
+        ensures gives_up { result ≡ Progress.GivesUp → IsTrue next.is_full }
     {
         if next.is_full {
-            return Taken::GivesUp;
+            return Progress::GivesUp;
         }
         if next.members.is_empty() {
-            return Taken::Fails;
+            return Progress::Fails;
         }
         self.members = next.members;
         self.reached += 1;
-        Taken::Next
+        Progress::Next
     }
 }

@@ -10,13 +10,13 @@ ghost use Rattle.lin_queues.specs.Engines.{AreDebtsOf};
 ghost use Rattle.lin_queues.specs.Reaching.{AreTooMany};
 ghost use Rattle.lin_queues.specs.declared.debts.Debts.{Debts as DebtsOf};
 
-use crate::debts::{Debts, Taken};
+use crate::debts::{Debts, Progress};
 use lin_events::{Event, Meter, OutOfMemory, beginnings_are_well_formed};
 use std::alloc::Global;
 
 /// What the engine tells of all events of a queue.
 #[derive(Clone, Copy, Debug, PartialEq, Eq)]
-pub enum End {
+pub enum QueueFinding {
     /// Those up to and with this one have no legal order.
     Fails(usize),
     /// Some member is left after all events.
@@ -42,13 +42,13 @@ fn count(meter: &mut Meter)
 /// `Fails` is right of well-formed events. `Stands` claims no legal order, only that the engine went through all events with a member left. `GaveUp` is answered
 /// of well-formed events only where some of the first ones come to more than 128 members, none of which is as good as another one. A step is counted
 /// for each event that was gone through. `OutOfMemory` is answered only where memory was refused.
-pub fn failing_event(alloc: Global, events: &[Event], meter: &mut Meter) -> Result<End, OutOfMemory>
-    ensures inside { (at : ℕ) → result ≡ Ok (End.Fails at) → at < length events.now }
-    ensures failing { (at : ℕ) → result ≡ Ok (End.Fails at) → (functions : ItemOf → NameOf → Bool) → IsWellFormed functions events.now → IsLinearizableAs FifoOf (take (at + 1) events.now) → ⊥ }
-    ensures stands { result ≡ Ok End.Stands → (functions : ItemOf → NameOf → Bool) → IsWellFormed functions events.now → (debts : DebtsOf) × AreDebtsOf debts events.now }
-    ensures gave_up { result ≡ Ok End.GaveUp → (functions : ItemOf → NameOf → Bool) → IsWellFormed functions events.now → (at : ℕ) × (at < length events.now) × AreTooMany (take (at + 1) events.now) }
-    ensures counted { (at : ℕ) → result ≡ Ok (End.Fails at) → meter.new ≡ record meter.old { steps = ticked meter.old.steps (at + 1) } }
-    ensures gone_through { result ≡ Ok End.Stands → meter.new ≡ record meter.old { steps = ticked meter.old.steps (length events.now) } }
+pub fn failing_event(alloc: Global, events: &[Event], meter: &mut Meter) -> Result<QueueFinding, OutOfMemory>
+    ensures inside { (at : ℕ) → result ≡ Ok (QueueFinding.Fails at) → at < length events.now }
+    ensures failing { (at : ℕ) → result ≡ Ok (QueueFinding.Fails at) → (functions : ItemOf → NameOf → Bool) → IsWellFormed functions events.now → IsLinearizableAs FifoOf (take (at + 1) events.now) → ⊥ }
+    ensures stands { result ≡ Ok QueueFinding.Stands → (functions : ItemOf → NameOf → Bool) → IsWellFormed functions events.now → (debts : DebtsOf) × AreDebtsOf debts events.now }
+    ensures gave_up { result ≡ Ok QueueFinding.GaveUp → (functions : ItemOf → NameOf → Bool) → IsWellFormed functions events.now → (at : ℕ) × (at < length events.now) × AreTooMany (take (at + 1) events.now) }
+    ensures counted { (at : ℕ) → result ≡ Ok (QueueFinding.Fails at) → meter.new ≡ record meter.old { steps = ticked meter.old.steps (at + 1) } }
+    ensures gone_through { result ≡ Ok QueueFinding.Stands → meter.new ≡ record meter.old { steps = ticked meter.old.steps (length events.now) } }
     ensures least { meter.old.steps ≤ meter.new.steps }
     ensures most { meter.new.steps ≤ meter.old.steps + length events.now }
     ensures others { (meter.new.scans ≡ meter.old.scans) × (meter.new.tries ≡ meter.old.tries) }
@@ -59,10 +59,10 @@ pub fn failing_event(alloc: Global, events: &[Event], meter: &mut Meter) -> Resu
         prove!(at < usize::MAX);
         count(meter);
         match debts.take_in(alloc, &events[at])? {
-            Taken::Next => {}
-            Taken::Fails => return Ok(End::Fails(at)),
-            Taken::GivesUp => return Ok(End::GaveUp),
+            Progress::Next => {}
+            Progress::Fails => return Ok(QueueFinding::Fails(at)),
+            Progress::GivesUp => return Ok(QueueFinding::GaveUp),
         }
     }
-    Ok(End::Stands)
+    Ok(QueueFinding::Stands)
 }

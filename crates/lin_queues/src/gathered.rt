@@ -4,14 +4,14 @@ ghost use Rattle.lin_events.specs.declared.events.Event.{Event as EventOf};
 ghost use Rattle.lin_orders.specs.declared.placed.Placed.{Placed as PlacedOf};
 ghost use Rattle.lin_debts.specs.Debts.{IsWhole};
 ghost use Rattle.lin_queues.specs.declared.elements.Element.{Element as ElementOf};
-ghost use Rattle.lin_queues.specs.declared.members.Member.{Member as MemberOf};
+ghost use Rattle.lin_queues.specs.declared.members.QueueMember.{QueueMember as MemberOf};
 ghost use Rattle.lin_queues.specs.Gains.{AreApart, Gains};
 ghost use Rattle.lin_queues.specs.Gathering.{IsCovered, Keeps};
 ghost use Rattle.lin_queues.specs.Members.{AreUnpaid, HasMore, IsAtLeast, Told, view_of};
 ghost use Rattle.lin_queues.specs.Opens.{AreDequeues, AreOpen};
 
-use crate::members::{Member, are_unpaid};
-use crate::opens::{Open, dequeues_of};
+use crate::members::{QueueMember, are_unpaid};
+use crate::opens::{OpenCall, dequeues_of};
 use lin_debts::{debts_are_payable, debts_move};
 use lin_events::OutOfMemory;
 use std::alloc::Global;
@@ -22,7 +22,7 @@ pub(crate) const LIMIT: usize = 128;
 /// Members, and the open dequeues that pay their debts.
 #[derive(Drop)]
 pub(crate) struct Gathered {
-    pub(crate) members: Vec<Member>,
+    pub(crate) members: Vec<QueueMember>,
     pub(crate) dequeues: Vec<usize>,
     /// Whether these are too many members.
     pub(crate) is_full: bool,
@@ -30,7 +30,7 @@ pub(crate) struct Gathered {
 
 impl Gathered {
     /// No member.
-    pub(crate) fn new(alloc: Global, open: &[Open]) -> Result<Gathered, OutOfMemory>
+    pub(crate) fn new(alloc: Global, open: &[OpenCall]) -> Result<Gathered, OutOfMemory>
         ensures paying { (h : List EventOf) → AreOpen h open.now → IfOk result (λ gathered. AreDequeues h gathered.dequeues.items) }
         ensures fresh { IfOk result (λ gathered. (gathered.members.items ≡ []) × (gathered.is_full ≡ false)) }
     {
@@ -43,7 +43,7 @@ impl Gathered {
     }
 
     /// Whether some member has the same, with times that are no less.
-    fn has_better(&self, member: &Member) -> bool
+    fn has_better(&self, member: &QueueMember) -> bool
         ensures better { IsTrue result → (m : MemberOf) × Contains self.now.members.items m × IsAtLeast (view_of m) (view_of member.now) }
         ensures none { result ≡ false → (m : MemberOf) → Contains self.now.members.items m → IsAtLeast (view_of m) (view_of member.now) → ⊥ }
     {
@@ -56,7 +56,7 @@ impl Gathered {
     }
 
     /// Lets those members go that have the same, with times that are no later.
-    fn drop_worse(&mut self, member: &Member)
+    fn drop_worse(&mut self, member: &QueueMember)
         ensures members { (m : MemberOf) → Contains self.old.members.items m → Contains self.new.members.items m ⊎ IsAtLeast (view_of member.now) (view_of m) }
         ensures left { (m : MemberOf) → Contains self.new.members.items m → Contains self.old.members.items m × (IsAtLeast (view_of member.now) (view_of m) → ⊥) }
         ensures apart { AreApart self.old.members.items → AreApart self.new.members.items }
@@ -74,7 +74,7 @@ impl Gathered {
     }
 
     /// Puts the member in where none is better.
-    fn put_in(&mut self, member: Member) -> Result<(), OutOfMemory>
+    fn put_in(&mut self, member: QueueMember) -> Result<(), OutOfMemory>
         requires { self.old.is_full ≡ false }
         ensures gains { OnOk result ((AreUnpaid member.debts.items self.old.dequeues.items → ⊥) → Gains self.old self.new (λ w. w ≡ view_of member)) }
         ensures told { OnOk result ((whole : List EventOf) (order : List PlacedOf) (n : ℕ) (all : List ElementOf) → Told whole order n all (view_of member) → IsCovered whole order n all self.new.members.items self.new.is_full) }
@@ -92,7 +92,7 @@ impl Gathered {
     }
 
     /// One member more, if its debts can be paid.
-    pub(crate) fn push(&mut self, member: Member) -> Result<(), OutOfMemory>
+    pub(crate) fn push(&mut self, member: QueueMember) -> Result<(), OutOfMemory>
         ensures gains { OnOk result (Gains self.old self.new (λ w. w ≡ view_of member)) }
         ensures told { OnOk result ((h whole : List EventOf) (order : List PlacedOf) (all : List ElementOf) → IsWhole h whole order → AreDequeues h self.old.dequeues.items → Told whole order (length h) all (view_of member) → IsCovered whole order (length h) all self.new.members.items self.new.is_full) }
         ensures kept { OnOk result (Keeps self.old self.new) }

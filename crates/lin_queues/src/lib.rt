@@ -28,5 +28,5 @@ mod rounds;
 mod settling;
 mod taking;
 
-pub use debts::{Debts, Taken};
-pub use failing::{End, failing_event};
+pub use debts::{Debts, Progress};
+pub use failing::{QueueFinding, failing_event};

@@ -21,7 +21,7 @@ pub(crate) struct Debt {
 
 /// What some legal orders made of the elements.
 #[derive(Drop)]
-pub(crate) struct Member {
+pub(crate) struct QueueMember {
     /// In the queue are the elements from this index on, but those at the indices that are gone.
     pub(crate) low: usize,
     pub(crate) gone: Vec<usize>,
@@ -54,12 +54,12 @@ pub(crate) fn are_unpaid(debts: &[Debt], dequeues: &[usize]) -> bool
     false
 }
 
-impl Member {
+impl QueueMember {
     /// Of the empty queue.
-    pub(crate) fn new(alloc: Global) -> Member
+    pub(crate) fn new(alloc: Global) -> QueueMember
         ensures { view_of result ≡ at_first }
     {
-        Member {
+        QueueMember {
             low: 0,
             gone: Vec::new(alloc),
             debts: Vec::new(alloc),
@@ -69,10 +69,10 @@ impl Member {
     }
 
     /// The same on its own memory.
-    pub(crate) fn copy(&self, alloc: Global) -> Result<Member, OutOfMemory>
+    pub(crate) fn copy(&self, alloc: Global) -> Result<QueueMember, OutOfMemory>
         ensures { IfOk result (λ copy. view_of copy ≡ view_of self.now) }
     {
-        Ok(Member {
+        Ok(QueueMember {
             low: self.low,
             gone: Vec::from_slice(alloc, self.gone.as_slice())?,
             debts: Vec::from_slice(alloc, self.debts.as_slice())?,
@@ -154,7 +154,7 @@ impl Member {
     }
 
     /// Whether each debt of the other one is here, with a time that is no less.
-    fn has_debts_of(&self, other: &Member) -> bool
+    fn has_debts_of(&self, other: &QueueMember) -> bool
         ensures { IsTrue result ↔ IsAtLeast (record (view_of other.now) { debts = self.now.debts.items }) (view_of other.now) }
     {
         if self.debts.len() != other.debts.len() {
@@ -170,7 +170,7 @@ impl Member {
     }
 
     /// Whether it has the same as the other one, with later times.
-    pub(crate) fn is_at_least(&self, other: &Member) -> bool
+    pub(crate) fn is_at_least(&self, other: &QueueMember) -> bool
         ensures { IsTrue result ↔ IsAtLeast (view_of self.now) (view_of other.now) }
     {
         self.low == other.low

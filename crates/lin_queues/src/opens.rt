@@ -2,7 +2,7 @@
 ghost use Rattle.std.specs.Prelude.{◌≡◌, ◌<◌, ◌++◌, ◌∷◌, [], ℕ, Bool, List, IfNone, IfOk, IfSome, IsTrue, ◌↔◌, Some, slice_get};
 ghost use Rattle.lin_events.specs.declared.events.Event.{Event as EventOf};
 ghost use Rattle.lin_events.specs.declared.calls.Call.{Call as CallOf};
-ghost use Rattle.lin_queues.specs.declared.opens.Open.{Open as OpenOf};
+ghost use Rattle.lin_queues.specs.declared.opens.OpenCall.{OpenCall as OpenOf};
 ghost use Rattle.lin_queues.specs.Opens.{AreDequeues, AreOpen};
 
 use lin_events::{Call, Item, OutOfMemory};
@@ -10,14 +10,14 @@ use std::alloc::Global;
 
 /// An operation that is neither ok nor failed; it may have crashed.
 #[derive(Clone, Copy)]
-pub(crate) struct Open {
+pub(crate) struct OpenCall {
     pub(crate) process: u64,
     pub(crate) place: usize,
     pub(crate) call: Call,
 }
 
 /// Where the process's operation stands in the list.
-pub(crate) fn index_of(open: &[Open], process: u64) -> Option<usize>
+pub(crate) fn index_of(open: &[OpenCall], process: u64) -> Option<usize>
     ensures found { IfSome result (λ at. (o : OpenOf) × (slice_get open.now at ≡ Some o) × (o.process ≡ process)) }
     ensures missing { IfNone result ((k : ℕ) (o : OpenOf) → slice_get open.now k ≡ Some o → o.process ≡ process → ⊥) }
 {
@@ -47,7 +47,7 @@ fn is_dequeue(call: Call) -> bool
 }
 
 /// The open dequeues, by rising place.
-pub(crate) fn dequeues_of(alloc: Global, open: &[Open]) -> Result<Vec<usize>, OutOfMemory>
+pub(crate) fn dequeues_of(alloc: Global, open: &[OpenCall]) -> Result<Vec<usize>, OutOfMemory>
     ensures { (h : List EventOf) → AreOpen h open.now → IfOk result (λ dequeues. AreDequeues h dequeues.items) }
 {
     let mut dequeues = Vec::new(alloc);

@@ -11,7 +11,7 @@ ghost use Rattle.lin_orders.specs.declared.placed.Placed.{Placed as PlacedOf};
 ghost use Rattle.lin_orders.specs.ConfigurationLaws.{with_event};
 ghost use Rattle.lin_debts.specs.Debts.{IsWhole};
 ghost use Rattle.lin_queues.specs.declared.elements.Element.{Element as ElementOf};
-ghost use Rattle.lin_queues.specs.declared.members.Member.{Member as MemberOf};
+ghost use Rattle.lin_queues.specs.declared.members.QueueMember.{QueueMember as MemberOf};
 ghost use Rattle.lin_queues.specs.Chains.{IsLinked};
 ghost use Rattle.lin_queues.specs.Gains.{AreGathered};
 ghost use Rattle.lin_queues.specs.Gathering.{IsCovered, IsReturning};
@@ -21,8 +21,8 @@ ghost use Rattle.lin_queues.specs.Opens.{AreOpen};
 
 use crate::elements::Element;
 use crate::gathered::Gathered;
-use crate::members::Member;
-use crate::opens::Open;
+use crate::members::QueueMember;
+use crate::opens::OpenCall;
 use crate::taking::Return;
 use lin_events::OutOfMemory;
 use std::alloc::Global;
@@ -30,9 +30,9 @@ use std::alloc::Global;
 /// The members after an ok of the enqueue, whose element stands at the index, behind all others.
 pub(crate) fn after_put(
     alloc: Global,
-    members: &[Member],
+    members: &[QueueMember],
     elements: &[Element],
-    open: &[Open],
+    open: &[OpenCall],
     place: usize,
     time: usize,
 ) -> Result<Gathered, OutOfMemory>
@@ -51,9 +51,9 @@ pub(crate) fn after_put(
 /// The members after an ok of a dequeue that found nothing.
 pub(crate) fn after_nothing(
     alloc: Global,
-    members: &[Member],
+    members: &[QueueMember],
     elements: &[Element],
-    open: &[Open],
+    open: &[OpenCall],
     dequeue: usize,
     time: usize,
 ) -> Result<Gathered, OutOfMemory>
@@ -70,9 +70,9 @@ pub(crate) fn after_nothing(
 /// The members after an ok of a dequeue with an item.
 pub(crate) fn after_found(
     alloc: Global,
-    members: &[Member],
+    members: &[QueueMember],
     elements: &[Element],
-    open: &[Open],
+    open: &[OpenCall],
     returned: Return,
 ) -> Result<Gathered, OutOfMemory>
     ensures gathered { IfOk result (λ next. AreGathered members.now open.now next (Finds elements.now open.now returned.dequeue returned.item returned.time)) }
@@ -88,8 +88,8 @@ pub(crate) fn after_found(
 /// The members after a fail of the operation: those in which its element wasn't taken.
 pub(crate) fn after_fail(
     alloc: Global,
-    members: &[Member],
-    open: &[Open],
+    members: &[QueueMember],
+    open: &[OpenCall],
     place: usize,
 ) -> Result<Gathered, OutOfMemory>
     ensures gathered { IfOk result (λ next. AreGathered members.now open.now next (Fails place)) }

@@ -11,7 +11,7 @@ ghost use Rattle.lin_orders.specs.declared.placed.Placed.{Placed as PlacedOf};
 ghost use Rattle.lin_orders.specs.ConfigurationLaws.{with_event};
 ghost use Rattle.lin_debts.specs.Debts.{IsWhole};
 ghost use Rattle.lin_queues.specs.declared.elements.Element.{Element as ElementOf};
-ghost use Rattle.lin_queues.specs.declared.members.Member.{Member as MemberOf};
+ghost use Rattle.lin_queues.specs.declared.members.QueueMember.{QueueMember as MemberOf};
 ghost use Rattle.lin_queues.specs.Gains.{Gains};
 ghost use Rattle.lin_queues.specs.Gathering.{IsCovered, IsReturning, Keeps};
 ghost use Rattle.lin_queues.specs.Members.{AreEnqueues, AreOwed, Told, view_of};
@@ -20,7 +20,7 @@ ghost use Rattle.lin_queues.specs.Opens.{AreDequeues, AreOpen};
 
 use crate::elements::Element;
 use crate::gathered::Gathered;
-use crate::members::{Member, is_in};
+use crate::members::{QueueMember, is_in};
 use lin_debts::{debts_after_ok, debts_are_payable};
 use lin_events::OutOfMemory;
 use std::alloc::Global;
@@ -29,7 +29,7 @@ impl Gathered {
     /// One member more, after its first elements went into debt.
     pub(crate) fn push_sunk(
         &mut self,
-        mut member: Member,
+        mut member: QueueMember,
         elements: &[Element],
         by: usize,
         time: usize,
@@ -51,7 +51,7 @@ impl Gathered {
     fn put_early(
         &mut self,
         alloc: Global,
-        member: &Member,
+        member: &QueueMember,
         elements: &[Element],
         place: usize,
         at: usize,
@@ -70,7 +70,7 @@ impl Gathered {
     fn push_emptied(
         &mut self,
         alloc: Global,
-        member: &Member,
+        member: &QueueMember,
         elements: &[Element],
         time: usize,
     ) -> Result<(), OutOfMemory>
@@ -85,7 +85,7 @@ impl Gathered {
     }
 
     /// The member as it is.
-    fn push_same(&mut self, alloc: Global, member: &Member) -> Result<(), OutOfMemory>
+    fn push_same(&mut self, alloc: Global, member: &QueueMember) -> Result<(), OutOfMemory>
         ensures told { OnOk result ((h whole : List EventOf) (order : List PlacedOf) (all : List ElementOf) → IsWhole h whole order → AreDequeues h self.old.dequeues.items → Told whole order (length h) all (view_of member.now) → IsCovered whole order (length h) all self.new.members.items self.new.is_full) }
         ensures kept { OnOk result (Keeps self.old self.new) }
         ensures gains { OnOk result (Gains self.old self.new (λ w. w ≡ view_of member.now)) }
@@ -99,7 +99,7 @@ impl Gathered {
     pub(crate) fn push_unless_early(
         &mut self,
         alloc: Global,
-        member: &Member,
+        member: &QueueMember,
         place: usize,
     ) -> Result<(), OutOfMemory>
         ensures told { OnOk result ((h whole : List EventOf) (order : List PlacedOf) (all : List ElementOf) → (Contains member.now.early.items place → ⊥) → IsWhole h whole order → AreDequeues h self.old.dequeues.items → Told whole order (length h) all (view_of member.now) → IsCovered whole order (length h) all self.new.members.items self.new.is_full) }
@@ -117,7 +117,7 @@ impl Gathered {
     pub(crate) fn put(
         &mut self,
         alloc: Global,
-        member: &Member,
+        member: &QueueMember,
         elements: &[Element],
         place: usize,
         at: usize,
@@ -140,7 +140,7 @@ impl Gathered {
     pub(crate) fn find_nothing(
         &mut self,
         alloc: Global,
-        member: &Member,
+        member: &QueueMember,
         elements: &[Element],
         dequeue: usize,
         time: usize,

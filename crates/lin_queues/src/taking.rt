@@ -11,7 +11,7 @@ ghost use Rattle.lin_orders.specs.declared.placed.Placed.{Placed as PlacedOf};
 ghost use Rattle.lin_orders.specs.ConfigurationLaws.{with_event};
 ghost use Rattle.lin_debts.specs.Debts.{IsWhole};
 ghost use Rattle.lin_queues.specs.declared.elements.Element.{Element as ElementOf};
-ghost use Rattle.lin_queues.specs.declared.opens.Open.{Open as OpenOf};
+ghost use Rattle.lin_queues.specs.declared.opens.OpenCall.{OpenCall as OpenOf};
 ghost use Rattle.lin_queues.specs.Chains.{IsLinked};
 ghost use Rattle.lin_queues.specs.Gains.{Gains};
 ghost use Rattle.lin_queues.specs.Gathering.{IsCovered, IsReturning, Keeps, MayPay, MayTake, MayTakeEarly};
@@ -21,8 +21,8 @@ ghost use Rattle.lin_queues.specs.Opens.{AreDequeues, AreOpen};
 
 use crate::elements::Element;
 use crate::gathered::Gathered;
-use crate::members::{Member, is_in};
-use crate::opens::{Open, puts};
+use crate::members::{QueueMember, is_in};
+use crate::opens::{OpenCall, puts};
 use lin_debts::debts_after_ok;
 use lin_events::{Item, OutOfMemory, ends_are_unique, well_formed_is_alternating};
 use std::alloc::Global;
@@ -50,7 +50,7 @@ fn end_before(element: Element, item: Item, at: usize) -> usize
 
 impl Gathered {
     /// The debt at the index is paid.
-    fn pay_one(&mut self, alloc: Global, member: &Member, at: usize) -> Result<(), OutOfMemory>
+    fn pay_one(&mut self, alloc: Global, member: &QueueMember, at: usize) -> Result<(), OutOfMemory>
         requires { at < length member.now.debts.items }
         ensures told { OnOk result ((h whole : List EventOf) (order : List PlacedOf) (all : List ElementOf) → IsWhole h whole order → AreDequeues h self.old.dequeues.items → Told whole order (length h) all (record (view_of member.now) { debts = removed member.now.debts.items at }) → IsCovered whole order (length h) all self.new.members.items self.new.is_full) }
         ensures kept { OnOk result (Keeps self.old self.new) }
@@ -66,7 +66,7 @@ impl Gathered {
     fn pay_if(
         &mut self,
         alloc: Global,
-        member: &Member,
+        member: &QueueMember,
         returned: Return,
         at: usize,
     ) -> Result<(), OutOfMemory>
@@ -84,7 +84,7 @@ impl Gathered {
     }
 
     /// A debt of the item is paid by the dequeue, each in turn.
-    fn pay(&mut self, alloc: Global, member: &Member, returned: Return) -> Result<(), OutOfMemory>
+    fn pay(&mut self, alloc: Global, member: &QueueMember, returned: Return) -> Result<(), OutOfMemory>
         ensures told { OnOk result ((h whole : List EventOf) (order : List PlacedOf) (all : List ElementOf) (at : ℕ) → IsWhole h whole order → AreDequeues h self.old.dequeues.items → MayPay whole order (length h) all (view_of member.now) returned.dequeue returned.item at → IsCovered whole order (length h) all self.new.members.items self.new.is_full) }
         ensures kept { OnOk result (Keeps self.old self.new) }
         ensures gains { OnOk result (Gains self.old self.new (Pays returned.dequeue returned.item (view_of member.now))) }
@@ -100,7 +100,7 @@ impl Gathered {
     fn take_one(
         &mut self,
         alloc: Global,
-        member: &Member,
+        member: &QueueMember,
         elements: &[Element],
         at: usize,
         time: usize,
@@ -120,7 +120,7 @@ impl Gathered {
     fn take_if(
         &mut self,
         alloc: Global,
-        member: &Member,
+        member: &QueueMember,
         elements: &[Element],
         at: usize,
         returned: Return,
@@ -141,7 +141,7 @@ impl Gathered {
     fn take(
         &mut self,
         alloc: Global,
-        member: &Member,
+        member: &QueueMember,
         elements: &[Element],
         returned: Return,
     ) -> Result<(), OutOfMemory>
@@ -164,7 +164,7 @@ impl Gathered {
     fn take_early_one(
         &mut self,
         alloc: Global,
-        member: &Member,
+        member: &QueueMember,
         elements: &[Element],
         place: usize,
         time: usize,
@@ -183,9 +183,9 @@ impl Gathered {
     fn take_early_if(
         &mut self,
         alloc: Global,
-        member: &Member,
+        member: &QueueMember,
         elements: &[Element],
-        operation: Open,
+        operation: OpenCall,
         returned: Return,
     ) -> Result<(), OutOfMemory>
         ensures told { OnOk result ((h whole : List EventOf) (order : List PlacedOf) → operation.call ≡ Enqueues returned.item → IsWhole h whole order → AreDequeues h self.old.dequeues.items → AreEnqueues whole elements.now → MayTakeEarly whole order (length h) elements.now (view_of member.now) returned.time operation.place → IsCovered whole order (length h) elements.now self.new.members.items self.new.is_full) }
@@ -203,9 +203,9 @@ impl Gathered {
     fn take_early(
         &mut self,
         alloc: Global,
-        member: &Member,
+        member: &QueueMember,
         elements: &[Element],
-        open: &[Open],
+        open: &[OpenCall],
         returned: Return,
     ) -> Result<(), OutOfMemory>
         ensures told { OnOk result ((h whole : List EventOf) (order : List PlacedOf) (k : ℕ) (o : OpenOf) → slice_get open.now k ≡ Some o → o.call ≡ Enqueues returned.item → IsWhole h whole order → AreDequeues h self.old.dequeues.items → AreEnqueues whole elements.now → MayTakeEarly whole order (length h) elements.now (view_of member.now) returned.time o.place → IsCovered whole order (length h) elements.now self.new.members.items self.new.is_full) }
@@ -223,9 +223,9 @@ impl Gathered {
     pub(crate) fn find(
         &mut self,
         alloc: Global,
-        member: &Member,
+        member: &QueueMember,
         elements: &[Element],
-        open: &[Open],
+        open: &[OpenCall],
         returned: Return,
     ) -> Result<(), OutOfMemory>
         ensures told { OnOk result ((functions : ItemOf → NameOf → Bool) (h : List EventOf) (event : EventOf) (whole : List EventOf) (order : List PlacedOf) → returned.time ≡ length h → IsLinked elements.now → ((i : ℕ) (x : ElementOf) → slice_get elements.now i ≡ Some x → x.item ≡ returned.item → i < returned.end) → AreOpen (with_event h event) open.now → IsReturning functions h event returned.dequeue Dequeues (Values (Held returned.item)) whole order elements.now → AreDequeues (with_event h event) self.old.dequeues.items → Told whole order (length h) elements.now (view_of member.now) → IsCovered whole order (length (with_event h event)) elements.now self.new.members.items self.new.is_full) }

@@ -4,7 +4,7 @@ ghost use Rattle.lin_orders.specs.Tables.{IsNextTable};
 ghost use Rattle.lin_ranks.specs.Ranks.{HasPut, IsOvertaken, IsRankedFrom};
 
 use crate::counts::{
-    Places, puts_ahead, puts_before, puts_between, takes_ahead, takes_before, takes_from,
+    RankPlaces, puts_ahead, puts_before, puts_between, takes_ahead, takes_before, takes_from,
 };
 use lin_events::{Event, Item, OutOfMemory};
 use lin_orders::ends_of;
@@ -12,10 +12,10 @@ use std::alloc::Global;
 
 /// An item, a place, so that its dequeues are looked at that weren't invoked ahead of it, and what bounds their ranks.
 #[derive(Clone, Copy)]
-pub struct Window {
+pub struct RankWindow {
     pub item: Item,
     pub from: usize,
-    pub places: Places,
+    pub places: RankPlaces,
 }
 
 /// Whether enqueues that weren't invoked ahead of the place have at least the rank.
@@ -30,7 +30,7 @@ fn are_above(events: &[Event], ends: &[Option<usize>], place: usize, high: usize
 }
 
 /// Whether the item was overtaken, by the window.
-fn is_overtaken_in(events: &[Event], ends: &[Option<usize>], window: &Window) -> bool
+fn is_overtaken_in(events: &[Event], ends: &[Option<usize>], window: &RankWindow) -> bool
     requires table { IsNextTable events.now ends.now }
     ensures { IsTrue result → IsOvertaken events.now window.now.item }
 {
@@ -47,7 +47,7 @@ fn is_overtaken_in(events: &[Event], ends: &[Option<usize>], window: &Window) ->
 }
 
 /// The same, where it isn't told yet how operations end. Goes through the events a few times.
-pub fn is_overtaken(alloc: Global, events: &[Event], window: &Window) -> Result<bool, OutOfMemory>
+pub fn is_overtaken(alloc: Global, events: &[Event], window: &RankWindow) -> Result<bool, OutOfMemory>
     ensures { IfOk result (λ is. IsTrue is → IsOvertaken events.now window.now.item) }
 {
     let ends = ends_of(alloc, events)?;

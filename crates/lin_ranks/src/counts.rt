@@ -11,7 +11,7 @@ use lin_events::{Event, Item};
 
 /// Places that bound ranks: enqueues that returned by the lower one rank below, those that weren't invoked ahead of the upper one above.
 #[derive(Clone, Copy)]
-pub struct Places {
+pub struct RankPlaces {
     pub lower: usize,
     pub upper: usize,
 }
@@ -171,7 +171,7 @@ fn is_put_between(
     ends: &[Option<usize>],
     at: usize,
     item: Item,
-    places: &Places,
+    places: &RankPlaces,
 ) -> bool
     requires table { IsNextTable events.now ends.now }
     requires within { at < length events.now }
@@ -187,7 +187,7 @@ fn is_put_between(
 }
 
 /// How many enqueues that may put the item in were invoked ahead of the upper place, and didn't return by the lower one.
-pub fn puts_between(events: &[Event], ends: &[Option<usize>], item: Item, places: &Places) -> usize
+pub fn puts_between(events: &[Event], ends: &[Option<usize>], item: Item, places: &RankPlaces) -> usize
     requires table { IsNextTable events.now ends.now }
     ensures { AtMost result (λ x. MayPutItem events.now item x × (x < places.now.upper) × (IsReturnedBy events.now x places.now.lower → ⊥)) }
 {

@@ -2,15 +2,15 @@
 ghost use Rattle.std.specs.Prelude.{◌<◌, IfOk, IfSome, length};
 ghost use Rattle.lin_ranks.specs.Ranks.{IsOvertakenAt};
 
-use crate::checking::{Window, is_overtaken};
-use crate::lines::Line;
+use crate::checking::{RankWindow, is_overtaken};
+use crate::lines::RankLine;
 use lin_events::{Body, Call, Event, Item, OutOfMemory, Reply, Val};
 use std::alloc::Global;
 use std::collections::HashMap;
 
 /// An operation that hasn't returned.
 #[derive(Clone, Copy)]
-enum Pending {
+enum PendingCall {
     /// An enqueue of the item, and where it was invoked.
     Put(Item, usize),
     /// A dequeue, where it was invoked, and how many had taken something out by then.
@@ -20,8 +20,8 @@ enum Pending {
 /// What is known of the first events.
 #[derive(Drop)]
 struct Search {
-    lines: HashMap<Item, Line>,
-    pending: HashMap<u64, Pending>,
+    lines: HashMap<Item, RankLine>,
+    pending: HashMap<u64, PendingCall>,
     /// How many enqueues returned.
     put: usize,
     /// How many were invoked, and haven't failed.
@@ -47,7 +47,7 @@ impl Search {
     /// The operations of the item, from now on.
     fn add_line(&mut self, alloc: Global, item: Item) -> Result<(), OutOfMemory> {
         if !self.lines.contains_key(&item) {
-            self.lines.insert(item, Line::new(alloc))?;
+            self.lines.insert(item, RankLine::new(alloc))?;
         }
         Ok(())
     }
@@ -73,11 +73,11 @@ impl Search {
         let pending = match call {
             Call::Enqueue(item) => {
                 self.put_in(alloc, at, *item)?;
-                Pending::Put(*item, at)
+                PendingCall::Put(*item, at)
             }
             _ => {
                 self.takes = self.takes.saturating_add(1);
-                Pending::Take(at, self.taken)
+                PendingCall::Take(at, self.taken)
             }
         };
         self.pending.insert(process, pending)?;
@@ -100,7 +100,7 @@ impl Search {
         at: usize,
         rank: usize,
         item: Item,
-    ) -> Result<Option<Window>, OutOfMemory> {
+    ) -> Result<Option<RankWindow>, OutOfMemory> {
         self.taken = self.taken.saturating_add(1);
         self.add_line(alloc, item)?;
         let Some(line) = self.lines.get_mut(&item) else {
@@ -109,7 +109,7 @@ impl Search {
         line.taken(at, rank)?;
         Ok(
             line.overtaken(self.takes)
-                .map(|(from, places)| Window { item, from, places }),
+                .map(|(from, places)| RankWindow { item, from, places }),
         )
     }
 
@@ -118,18 +118,18 @@ impl Search {
         &mut self,
         alloc: Global,
         at: usize,
-        pending: Pending,
+        pending: PendingCall,
         reply: &Reply,
-    ) -> Result<Option<Window>, OutOfMemory> {
+    ) -> Result<Option<RankWindow>, OutOfMemory> {
         match (pending, reply) {
-            (Pending::Put(item, _), _) => {
+            (PendingCall::Put(item, _), _) => {
                 self.put_ok(at, item)?;
                 Ok(None)
             }
-            (Pending::Take(dequeue, rank), Reply::Value(Val::Item(item))) => {
+            (PendingCall::Take(dequeue, rank), Reply::Value(Val::Item(item))) => {
                 self.take_out(alloc, dequeue, rank, *item)
             }
-            (Pending::Take(_, _), _) => {
+            (PendingCall::Take(_, _), _) => {
                 self.takes = self.takes.saturating_sub(1);
                 Ok(None)
             }
@@ -137,15 +137,15 @@ impl Search {
     }
 
     /// The operation failed.
-    fn fail(&mut self, pending: Pending) {
+    fn fail(&mut self, pending: PendingCall) {
         match pending {
-            Pending::Put(item, at) => {
+            PendingCall::Put(item, at) => {
                 self.puts = self.puts.saturating_sub(1);
                 if let Some(line) = self.lines.get_mut(&item) {
                     line.failed(at);
                 }
             }
-            Pending::Take(_, _) => {
+            PendingCall::Take(_, _) => {
                 self.takes = self.takes.saturating_sub(1);
             }
         }
@@ -157,7 +157,7 @@ impl Search {
         alloc: Global,
         at: usize,
         event: &Event,
-    ) -> Result<Option<Window>, OutOfMemory> {
+    ) -> Result<Option<RankWindow>, OutOfMemory> {
         if let Body::Invoke(call) = &event.body {
             self.invoke(alloc, at, event.process, call)?;
             return Ok(None);
@@ -177,7 +177,7 @@ impl Search {
 }
 
 /// The first event with which an item is overtaken, as far as is seen, and how.
-fn sought(alloc: Global, events: &[Event]) -> Result<Option<(usize, Window)>, OutOfMemory> {
+fn sought(alloc: Global, events: &[Event]) -> Result<Option<(usize, RankWindow)>, OutOfMemory> {
     let mut search = Search::new(alloc);
     for (at, event) in events.iter().enumerate() {
         if let Some(window) = search.take_in(alloc, at, event)? {

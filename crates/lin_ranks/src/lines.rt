@@ -1,5 +1,5 @@
 //! The enqueues and dequeues of an item, as far as their ranks are known. It promises nothing.
-use crate::counts::Places;
+use crate::counts::RankPlaces;
 use lin_events::OutOfMemory;
 use std::alloc::Global;
 
@@ -18,7 +18,7 @@ struct Bound {
 
 /// The operations of an item.
 #[derive(Drop)]
-pub struct Line {
+pub struct RankLine {
     /// Enqueues that haven't failed, in the order of their invocations: which rank they have at least.
     puts: Vec<Bound>,
     /// Those that returned, in the order of their returns: which rank they don't come up to.
@@ -32,9 +32,9 @@ fn first_from(bounds: &[Bound], rank: usize) -> usize {
     bounds.partition_point(|bound| bound.rank < rank)
 }
 
-impl Line {
-    pub fn new(alloc: Global) -> Line {
-        Line {
+impl RankLine {
+    pub fn new(alloc: Global) -> RankLine {
+        RankLine {
             puts: Vec::new(alloc),
             ended: Vec::new(alloc),
             takes: Vec::new(alloc),
@@ -86,7 +86,7 @@ impl Line {
     }
 
     /// Where to begin with those dequeues of which more have their ranks below this one than enqueues can have such ranks, and what bounds them.
-    pub fn overtaken(&self, high: usize) -> Option<(usize, Places)> {
+    pub fn overtaken(&self, high: usize) -> Option<(usize, RankPlaces)> {
         let count = self.takes.len();
         let below = first_from(&self.puts, high);
         for index in (count.saturating_sub(FAR)..count).rev() {
@@ -98,7 +98,7 @@ impl Line {
                     .get(ended.wrapping_sub(1))
                     .map_or(0, |bound| bound.at);
                 let upper = self.puts.get(below).map_or(NONE, |bound| bound.at);
-                return Some((first.at, Places { lower, upper }));
+                return Some((first.at, RankPlaces { lower, upper }));
             }
         }
         None

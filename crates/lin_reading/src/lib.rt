@@ -6,5 +6,5 @@ mod hints;
 mod reading;
 mod refused;
 
-pub use reading::{Placed, read_placed};
+pub use reading::{EventPlaces, read_placed};
 pub use refused::{place_of, refusal_lines};

@@ -23,7 +23,7 @@ const PIECE: usize = 65_536;
 
 /// Where the events of a history stand.
 #[derive(Drop)]
-pub struct Placed {
+pub struct EventPlaces {
     pub places: Places,
     /// Lines that hint at what to do, where the file is refused and there are any.
     pub hints: Vec<u8>,
@@ -84,7 +84,7 @@ pub fn read_placed<R: Read>(
     least: u32,
     file: &mut Counted<R>,
     names: &mut Names,
-) -> Result<(History, Placed), RunFault>
+) -> Result<(History, EventPlaces), RunFault>
     requires { failures_of file.old < u64.MAX }
     ensures begun { Begins names.old names.new }
     ensures read { IfOk result (λ found. (bytes : List ℕ)
@@ -104,7 +104,7 @@ pub fn read_placed<R: Read>(
     file.has_given(&history);
     let history = with_least(history, least);
     let hints = hints_of(alloc, keyed, &history, &places, first.as_slice())?;
-    Ok((history, Placed { places, hints }))
+    Ok((history, EventPlaces { places, hints }))
 }
 
 /// Each spelling has one number, and a numbering agrees with the names; a text has one stream. The function does nothing.

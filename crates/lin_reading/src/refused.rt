@@ -2,7 +2,7 @@
 ghost use Rattle.std.specs.Prelude.{◌≡◌, ◌++◌, IfOk, OnOk};
 ghost use Rattle.lin_reading.specs.Refused.{edn_sentence as edn_text, event_sentence as event_text, place_in, place_words, refused_text, sentence_text};
 
-use crate::reading::Placed;
+use crate::reading::EventPlaces;
 use lin_edn::EdnCause;
 use lin_events::OutOfMemory;
 use lin_formats::{Refusal, put_number};
@@ -91,7 +91,7 @@ fn put_place(text: &mut Vec<u8>, place: Option<Place>) -> Result<(), AllocError>
 pub fn refusal_lines(
     alloc: Global,
     refusal: Refusal,
-    placed: &Placed,
+    placed: &EventPlaces,
 ) -> Result<Vec<u8>, OutOfMemory>
     ensures { IfOk result (λ lines. lines.items ≡ refused_text placed.now.places refusal ++ placed.now.hints.items) }
 {

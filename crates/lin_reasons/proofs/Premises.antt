@@ -9,7 +9,7 @@ use Rattle.lin_certificates.specs.Certificates.{Certifies, IsCounted, IsOverwrit
 use Rattle.lin_certificates.specs.declared.certificate.Certificate.{Certificate}
 use Rattle.lin_certificates.specs.declared.certificate.Certificate.TheVariants.{Shape, Unwritten, Overwritten, Crossed, Spent, Taken, Passed, Inside, Preceded, Remaining, Unadded, Lost, Split, Late, Twice, Counted, Within}
 use Rattle.lin_reasons.specs.Reasons.{ArePut, IsCertified, IsReasonOfRegister}
-use Rattle.lin_reasons.specs.declared.told.Told.{Told}
+use Rattle.lin_reasons.specs.declared.told.ObjectEvents.{ObjectEvents}
 
 overwritten_by : (h : List Event) (at : ℕ) (v : Val) (kind : Kind) → Certifies h kind (Overwritten at v) → IsOverwritten h at v
 overwritten_by h at v Register holds = holds
@@ -33,7 +33,7 @@ counted_by h Mutex holds = holds
 pub counted_of : (h : List Event) (c : Certificate) → c ≡ Counted → IsCertified h c → IsCounted h
 counted_of h c is holds = counted_by h holds.0 (subst (Certifies h holds.0) is holds.1)
 
-module _ (told : Told) where
+module _ (told : ObjectEvents) where
   nothing : (c : Certificate) (text named : List ℕ) → ((lines more : List ℕ) → lines ≡ [] → more ≡ [] → IsReasonOfRegister told c lines more) → ArePut (IsReasonOfRegister told c) text text named named
   nothing c text named tells = ([], [], sym (append-nil text), sym (append-nil named), tells [] [] refl refl)
 

@@ -4,9 +4,9 @@ use Rattle.lin_certificates.specs.declared.words.Calls.{Calls}
 use Rattle.lin_certificates.specs.declared.words.Calls.TheVariants.{Leaves, Updates, Spends, Adds, AddsSome, Dequeues, Acquires, Releases}
 use Rattle.lin_reasons.specs.Reasons.{ArePut}
 use Rattle.lin_reasons.specs.Within.{IsWithinTold}
-use Rattle.lin_reasons.specs.declared.told.Told.{Told}
+use Rattle.lin_reasons.specs.declared.told.ObjectEvents.{ObjectEvents}
 
-module _ (told : Told) (from to : ℕ) (text named : List ℕ) where
+module _ (told : ObjectEvents) (from to : ℕ) (text named : List ℕ) where
   nothing : (calls : Calls) → ((lines more : List ℕ) → lines ≡ [] → more ≡ [] → IsWithinTold told calls from to lines more) → ArePut (IsWithinTold told calls from to) text text named named
   nothing calls tells = ([], [], sym (append-nil text), sym (append-nil named), tells [] [] refl refl)
 

@@ -11,10 +11,10 @@ use Rattle.lin_failures.specs.Conflicts.{Leaves}
 use Rattle.lin_failures.specs.QueueConflicts.{Takes}
 use Rattle.lin_certificates.specs.Certificates.{Overwrites}
 use Rattle.lin_certificates.specs.Words.{Counts, IsOfWhich, Returned, Spends, Updates}
-use Rattle.lin_reasons.specs.declared.groups.Calls.{Calls}
-use Rattle.lin_reasons.specs.declared.groups.Calls.TheVariants as Called
-use Rattle.lin_reasons.specs.declared.groups.Answers.{Answers}
-use Rattle.lin_reasons.specs.declared.groups.Answers.TheVariants as Answered
+use Rattle.lin_reasons.specs.declared.groups.CallGroup.{CallGroup}
+use Rattle.lin_reasons.specs.declared.groups.CallGroup.TheVariants as Called
+use Rattle.lin_reasons.specs.declared.groups.ReplyGroup.{ReplyGroup}
+use Rattle.lin_reasons.specs.declared.groups.ReplyGroup.TheVariants as Answered
 use Rattle.lin_reasons.specs.declared.groups.Group.{Group}
 use Rattle.lin_reasons.specs.declared.groups.Group.TheVariants as Chosen
 
@@ -39,7 +39,7 @@ abbrev pub IsBetween : List Event → ℕ → ℕ → ℕ → Type 0
 IsBetween h first last over = Overwrites h last over × IsBefore h first over
 
 -- the call is of this sort
-abbrev pub IsOfCalls : Calls → Call → Type 0
+abbrev pub IsOfCalls : CallGroup → Call → Type 0
 IsOfCalls (Called.Leaves v) call = Leaves call v
 IsOfCalls Called.Updates call = Updates call
 IsOfCalls (Called.Spends v) call = Spends call v
@@ -48,7 +48,7 @@ IsOfCalls Called.Acquires call = call ≡ Acquire
 IsOfCalls Called.Releases call = call ≡ Release
 
 -- the call with this reply is of this sort
-abbrev pub IsOfAnswers : Answers → Call → Reply → Type 0
+abbrev pub IsOfAnswers : ReplyGroup → Call → Reply → Type 0
 IsOfAnswers (Answered.Called calls) call reply = IsOfCalls calls call
 IsOfAnswers (Answered.Takes n) call reply = Takes call reply n
 

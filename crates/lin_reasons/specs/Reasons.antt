@@ -22,17 +22,17 @@ use Rattle.lin_reasons.specs.Series.{firsts}
 use Rattle.lin_reasons.specs.Sides.{named_sides}
 use Rattle.lin_reasons.specs.Surplus.{IsPrecededTold, IsRemainingTold}
 use Rattle.lin_reasons.specs.Within.{IsWithinTold}
-use Rattle.lin_reasons.specs.declared.told.Told.{Told}
+use Rattle.lin_reasons.specs.declared.told.ObjectEvents.{ObjectEvents}
 
 -- the lines tell that nothing leaves the item, and of those that failed to
-pub record IsUnwrittenTold (told : Told) (at : ℕ) (n : Item) (lines operations : List ℕ) : Type 0 where
+pub record IsUnwrittenTold (told : ObjectEvents) (at : ℕ) (n : Item) (lines operations : List ℕ) : Type 0 where
   pub failed : List ℕ
   pub all_failed : IsListing (Fails told.events.now (λ call. Leaves call (Held n))) failed
   pub put : lines ≡ unwritten_text told at n failed
   pub named : operations ≡ at ∷ firsts failed
 
 -- the lines tell that nothing adds the item, and of those that failed to
-pub record IsUnaddedTold (told : Told) (read : ℕ) (n : Item) (lines operations : List ℕ) : Type 0 where
+pub record IsUnaddedTold (told : ObjectEvents) (read : ℕ) (n : Item) (lines operations : List ℕ) : Type 0 where
   pub failed : List ℕ
   pub all_failed : IsListing (Fails told.events.now (λ call. Adds call n)) failed
   pub put : lines ≡ unadded_text told read n failed
@@ -58,7 +58,7 @@ named_over at first pairs = at ∷ (option_to_list first ++ flat_map both_of pai
 
 -- the lines tell of the first operations that leave the value, each with one that leaves some value between it and the one that needs the
 -- value, and how many more there are
-pub record IsOverwrittenTold (told : Told) (at : ℕ) (v : Val) (lines operations : List ℕ) : Type 0 where
+pub record IsOverwrittenTold (told : ObjectEvents) (at : ℕ) (v : Val) (lines operations : List ℕ) : Type 0 where
   pub others : List ℕ
   pub all_others : IsListing (OtherCanLeave told.events.now v at) others
   pub first : Option ℕ
@@ -75,7 +75,7 @@ all_four pair None = both_of pair
 all_four pair (Some back) = both_of back ++ both_of pair
 
 -- the lines tell how often the item was taken out, and how often it can have been put in
-pub record IsTakenTold (told : Told) (n : Item) (lines operations : List ℕ) : Type 0 where
+pub record IsTakenTold (told : ObjectEvents) (n : Item) (lines operations : List ℕ) : Type 0 where
   pub done : List ℕ
   pub may : List ℕ
   pub failed : List ℕ
@@ -86,14 +86,14 @@ pub record IsTakenTold (told : Told) (n : Item) (lines operations : List ℕ) : 
   pub named : operations ≡ named_sides done may failed
 
 -- the lines tell which dequeue took the item first, if one did
-pub record IsPassedTold (told : Told) (enqueue later dequeue : ℕ) (n other : Item) (lines operations : List ℕ) : Type 0 where
+pub record IsPassedTold (told : ObjectEvents) (enqueue later dequeue : ℕ) (n other : Item) (lines operations : List ℕ) : Type 0 where
   pub takes : List ℕ
   pub all_takes : IsListing (TookOut told.events.now n) takes
   pub put : lines ≡ passed_text told (enqueue, later) dequeue n other (slice_get takes 0)
   pub named : operations ≡ enqueue ∷ later ∷ dequeue ∷ option_to_list (slice_get takes 0)
 
 -- the lines tell how often one of a lock's calls returned, and how often the other can have taken effect, which was too seldom
-pub record IsCountedBy (told : Told) (over under : Calls) (done_word may_word : Name) (spare : ℕ) (lines operations : List ℕ) : Type 0 where
+pub record IsCountedBy (told : ObjectEvents) (over under : Calls) (done_word may_word : Name) (spare : ℕ) (lines operations : List ℕ) : Type 0 where
   pub done : List ℕ
   pub may : List ℕ
   pub failed : List ℕ
@@ -105,25 +105,25 @@ pub record IsCountedBy (told : Told) (over under : Calls) (done_word may_word : 
   pub named : operations ≡ named_sides done may failed
 
 -- one acquire needs no release before it
-abbrev pub IsCountedTold : Told → List ℕ → List ℕ → Type 0
+abbrev pub IsCountedTold : ObjectEvents → List ℕ → List ℕ → Type 0
 IsCountedTold told lines operations = IsCountedBy told Releases Acquires Named.Release Named.Acquire 0 lines operations
     ⊎ IsCountedBy told Acquires Releases Named.Acquire Named.Release 1 lines operations
 
 -- the lines tell the certificate of a register, a queue, a set or a lock, and name these operations
-abbrev pub IsReasonOfRegister : Told → Certificate → List ℕ → List ℕ → Type 0
+abbrev pub IsReasonOfRegister : ObjectEvents → Certificate → List ℕ → List ℕ → Type 0
 IsReasonOfRegister told (Form.Shape read) lines operations = (lines ≡ shape_text told read) × (operations ≡ read ∷ [])
 IsReasonOfRegister told (Form.Unwritten at n) lines operations = IsUnwrittenTold told at n lines operations
 IsReasonOfRegister told (Form.Overwritten at v) lines operations = IsOverwrittenTold told at v lines operations
 IsReasonOfRegister told (Form.Crossed v w early late back) lines operations = (lines ≡ crossed_text told v (Held w) (early, late) back) × (operations ≡ all_four (early, late) back)
 IsReasonOfRegister told _ lines operations = (lines ≡ []) × (operations ≡ [])
 
-abbrev pub IsReasonOfQueue : Told → Certificate → List ℕ → List ℕ → Type 0
+abbrev pub IsReasonOfQueue : ObjectEvents → Certificate → List ℕ → List ℕ → Type 0
 IsReasonOfQueue told (Form.Taken n) lines operations = IsTakenTold told n lines operations
 IsReasonOfQueue told (Form.Passed enqueue later dequeue n other) lines operations = IsPassedTold told enqueue later dequeue n other lines operations
 IsReasonOfQueue told (Form.Inside enqueue dequeue n) lines operations = (lines ≡ inside_text told enqueue dequeue n) × (operations ≡ enqueue ∷ dequeue ∷ [])
 IsReasonOfQueue told c lines operations = IsReasonOfRegister told c lines operations
 
-abbrev pub IsReasonOfSet : Told → Certificate → List ℕ → List ℕ → Type 0
+abbrev pub IsReasonOfSet : ObjectEvents → Certificate → List ℕ → List ℕ → Type 0
 IsReasonOfSet told (Form.Unadded read n) lines operations = IsUnaddedTold told read n lines operations
 IsReasonOfSet told (Form.Lost earlier read n) lines operations = (lines ≡ lost_text told earlier read n) × (operations ≡ earlier ∷ read ∷ [])
 IsReasonOfSet told (Form.Split first second n other) lines operations = (lines ≡ split_text told (first, second) n other) × (operations ≡ first ∷ second ∷ [])
@@ -131,7 +131,7 @@ IsReasonOfSet told (Form.Late earlier add read n other) lines operations = (line
 IsReasonOfSet told c lines operations = IsReasonOfQueue told c lines operations
 
 -- the lines tell how often the register was taken from the value to another one, and how often it can have come to it
-pub record IsSpentTold (told : Told) (v : Val) (lines operations : List ℕ) : Type 0 where
+pub record IsSpentTold (told : ObjectEvents) (v : Val) (lines operations : List ℕ) : Type 0 where
   pub done : List ℕ
   pub may : List ℕ
   pub failed : List ℕ
@@ -141,14 +141,14 @@ pub record IsSpentTold (told : Told) (v : Val) (lines operations : List ℕ) : T
   pub put : lines ≡ spent_text told v done may failed
   pub named : operations ≡ named_sides done may failed
 
-abbrev pub IsReasonByCount : Told → Certificate → List ℕ → List ℕ → Type 0
+abbrev pub IsReasonByCount : ObjectEvents → Certificate → List ℕ → List ℕ → Type 0
 IsReasonByCount told (Form.Spent v) lines operations = IsSpentTold told v lines operations
 IsReasonByCount told (Form.Remaining dequeue) lines operations = IsRemainingTold told dequeue lines operations
 IsReasonByCount told (Form.Preceded later dequeue n) lines operations = IsPrecededTold told later dequeue n lines operations
 IsReasonByCount told c lines operations = IsReasonOfSet told c lines operations
 
 -- the lines tell the certificate, and name these operations
-abbrev pub IsReason : Told → Certificate → List ℕ → List ℕ → Type 0
+abbrev pub IsReason : ObjectEvents → Certificate → List ℕ → List ℕ → Type 0
 IsReason told (Form.Twice first second) lines operations = (lines ≡ twice_text told first second) × (operations ≡ first ∷ second ∷ [])
 IsReason told Form.Counted lines operations = IsCountedTold told lines operations
 IsReason told (Form.Within calls from to) lines operations = IsWithinTold told calls from to lines operations
@@ -159,7 +159,7 @@ abbrev pub ArePut : (List ℕ → List ℕ → Type 0) → List ℕ → List ℕ
 ArePut Tells text text' named named' = (lines : List ℕ) × (more : List ℕ) × (text' ≡ text ++ lines) × (named' ≡ named ++ more) × Tells lines more
 
 -- lines that tell the certificate were put last, and the list has the operations that they name, rising, each once
-abbrev pub IsTold : Told → Certificate → List ℕ → List ℕ → List ℕ → Type 0
+abbrev pub IsTold : ObjectEvents → Certificate → List ℕ → List ℕ → List ℕ → Type 0
 IsTold told c text text' named = (lines : List ℕ) × (operations : List ℕ) × (text' ≡ text ++ lines) × IsReason told c lines operations × IsListing (Contains operations) named
 
 -- the certificate holds of the object's events, for an object of some kind

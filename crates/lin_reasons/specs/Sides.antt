@@ -4,12 +4,12 @@ use Rattle.lin_events.specs.declared.events.Event.{Event}
 use Rattle.lin_certificates.specs.Words.{Counts, Returned}
 use Rattle.lin_reasons.specs.Groups.{Fails, IsListing, IsOfAnswers, IsOfCalls}
 use Rattle.lin_reasons.specs.Series.{firsts}
-use Rattle.lin_reasons.specs.declared.groups.Answers.{Answers}
-use Rattle.lin_reasons.specs.declared.groups.Calls.{Calls}
+use Rattle.lin_reasons.specs.declared.groups.ReplyGroup.{ReplyGroup}
+use Rattle.lin_reasons.specs.declared.groups.CallGroup.{CallGroup}
 use Rattle.lin_reasons.specs.declared.sides.Sides.{Sides}
 
 -- all that returned and are such; all of the other sort that aren't failed; all of that sort that failed
-pub record AreSides (h : List Event) (answers : Answers) (calls : Calls) (sides : Sides) : Type 0 where
+pub record AreSides (h : List Event) (answers : ReplyGroup) (calls : CallGroup) (sides : Sides) : Type 0 where
   pub all_done : IsListing (Returned h (IsOfAnswers answers)) sides.done.items
   pub all_may : IsListing (Counts h (IsOfCalls calls)) sides.may.items
   pub all_failed : IsListing (Fails h (IsOfCalls calls)) sides.failed.items

@@ -11,15 +11,15 @@ use Rattle.lin_events.specs.declared.events.Event.{Event}
 use Rattle.lin_words.specs.Operations.{operation_text}
 use Rattle.lin_words.specs.Spots.{spot_text}
 use Rattle.lin_words.specs.Values.{short_item_text}
-use Rattle.lin_reasons.specs.declared.told.Told.{Told}
+use Rattle.lin_reasons.specs.declared.told.ObjectEvents.{ObjectEvents}
 use Rattle.lin_reasons.specs.declared.told.Verb.{Verb}
 use Rattle.lin_reasons.specs.declared.told.Verb.TheVariants.{Returned, Called, Failed}
 
 -- where an event of the object stands in the whole history
-abbrev pub position_of : Told → ℕ → ℕ
+abbrev pub position_of : ObjectEvents → ℕ → ℕ
 position_of told at = unwrap_or (slice_get told.picks.now at) 0
 
-abbrev pub spot_at : Told → ℕ → List ℕ
+abbrev pub spot_at : ObjectEvents → ℕ → List ℕ
 spot_at told at = spot_text (option_map (λ p. p.now) told.places) (position_of told at)
 
 -- the end of an operation, if there is one
@@ -27,11 +27,11 @@ abbrev pub listed_end : Option (Option ℕ) → Option ℕ
 listed_end (Some end) = end
 listed_end None = None
 
-abbrev pub end_at : Told → ℕ → Option ℕ
+abbrev pub end_at : ObjectEvents → ℕ → Option ℕ
 end_at told at = listed_end (slice_get told.ends.now at)
 
 -- where it ended
-abbrev pub end_spot : Told → ℕ → List ℕ
+abbrev pub end_spot : ObjectEvents → ℕ → List ℕ
 end_spot told at = spot_at told (unwrap_or (end_at told at) 0)
 
 -- what an ok event replies
@@ -48,7 +48,7 @@ reply_behind_end h None = None
 reply_behind_end h (Some end) = reply_in (slice_get h end)
 
 -- the reply of an operation, if it is ok
-abbrev pub reply_at : Told → ℕ → Option Reply
+abbrev pub reply_at : ObjectEvents → ℕ → Option Reply
 reply_at told at = reply_behind_end told.events.now (end_at told at)
 
 -- members are left out
@@ -85,30 +85,30 @@ event_words names None reply = []
 event_words names (Some event) reply = body_words names event.process event.body reply
 
 -- the operation, with its reply where it is ok, but without members
-abbrev pub op_text : Told → ℕ → List ℕ
+abbrev pub op_text : ObjectEvents → ℕ → List ℕ
 op_text told at = event_words told.names.now (slice_get told.events.now at) (without_members (reply_at told at))
 
-abbrev pub returned_text : Told → ℕ → List ℕ
+abbrev pub returned_text : ObjectEvents → ℕ → List ℕ
 returned_text told at = op_text told at ++ codes " returned at " ++ end_spot told at
 
-abbrev pub called_text : Told → ℕ → List ℕ
+abbrev pub called_text : ObjectEvents → ℕ → List ℕ
 called_text told at = op_text told at ++ codes " was called at " ++ spot_at told at
 
-abbrev pub failed_text : Told → ℕ → List ℕ
+abbrev pub failed_text : ObjectEvents → ℕ → List ℕ
 failed_text told at = op_text told at ++ codes " failed at " ++ end_spot told at
 
-abbrev pub did_text : Told → Verb → ℕ → List ℕ
+abbrev pub did_text : ObjectEvents → Verb → ℕ → List ℕ
 did_text told Returned at = returned_text told at
 did_text told Called at = called_text told at
 did_text told Failed at = failed_text told at
 
 -- the one returned, and the other was called
-abbrev pub in_turn_text : Told → ℕ → ℕ → List ℕ
+abbrev pub in_turn_text : ObjectEvents → ℕ → ℕ → List ℕ
 in_turn_text told first second = returned_text told first ++ codes ", " ++ called_text told second
 
 -- the set had the item when the operation returned: a read tells it
-abbrev pub item_behind : Told → Bool → Item → List ℕ
+abbrev pub item_behind : ObjectEvents → Bool → Item → List ℕ
 item_behind told reads n = if reads then codes " with " ++ short_item_text told.names.now n else []
 
-abbrev pub had_text : Told → ℕ → Item → List ℕ
+abbrev pub had_text : ObjectEvents → ℕ → Item → List ℕ
 had_text told at n = op_text told at ++ item_behind told (is_read (call_in (slice_get told.events.now at))) n ++ codes " returned at " ++ end_spot told at

@@ -4,12 +4,12 @@ ghost use Rattle.lin_orders.specs.Tables.{IsNextTable};
 ghost use Rattle.lin_reasons.specs.Lines.{beside_text, spent_text, spent_why};
 ghost use Rattle.lin_reasons.specs.Reasons.{ArePut, IsCertified, IsReasonByCount, IsSpentTold};
 
-use crate::groups::{Answers, Calls};
+use crate::groups::{ReplyGroup, CallGroup};
 use crate::series::put_how_often;
 use crate::sets::put_set_reason;
 use crate::sides::{Sides, name_sides, put_sides, sides_of};
 use crate::surplus::{put_preceded, put_remaining};
-use crate::told::Told;
+use crate::told::ObjectEvents;
 use lin_certificates::Certificate;
 use lin_events::Val;
 use lin_words::put_value;
@@ -28,7 +28,7 @@ fn put_beside(text: &mut Vec<u8>, value: Val) -> Result<(), AllocError>
 /// Puts a line last of a register that was taken from the value to another one too often.
 fn put_spent_why(
     text: &mut Vec<u8>,
-    told: &Told,
+    told: &ObjectEvents,
     value: Val,
     done: &[usize],
     may: &[usize],
@@ -50,7 +50,7 @@ fn put_spent_why(
 /// Puts the lines last of a register that was taken from the value to another one too often.
 fn put_spent_lines(
     text: &mut Vec<u8>,
-    told: &Told,
+    told: &ObjectEvents,
     value: Val,
     sides: &Sides,
 ) -> Result<(), AllocError>
@@ -70,7 +70,7 @@ fn put_spent_lines(
 fn put_spent(
     text: &mut Vec<u8>,
     named: &mut Vec<usize>,
-    told: &Told,
+    told: &ObjectEvents,
     value: Val,
     alloc: Global,
 ) -> Result<(), AllocError>
@@ -79,8 +79,8 @@ fn put_spent(
 {
     let sides = sides_of(
         told,
-        Answers::Called(Calls::Spends(value)),
-        Calls::Leaves(value),
+        ReplyGroup::Called(CallGroup::Spends(value)),
+        CallGroup::Leaves(value),
         alloc,
     )?;
     put_spent_lines(text, told, value, &sides)?;
@@ -92,7 +92,7 @@ fn put_spent(
 pub(crate) fn put_count_reason(
     text: &mut Vec<u8>,
     named: &mut Vec<usize>,
-    told: &Told,
+    told: &ObjectEvents,
     certificate: &Certificate,
     alloc: Global,
 ) -> Result<(), AllocError>

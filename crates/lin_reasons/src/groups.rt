@@ -15,7 +15,7 @@ use lin_orders::{call_at, end_of, is_failed, ok_end};
 
 /// A sort of calls.
 #[derive(Clone, Copy, Debug, PartialEq, Eq)]
-pub(crate) enum Calls {
+pub(crate) enum CallGroup {
     /// It leaves the value in a register.
     Leaves(Val),
     /// It leaves some value in a register.
@@ -30,9 +30,9 @@ pub(crate) enum Calls {
 
 /// A sort of calls with their replies.
 #[derive(Clone, Copy, Debug, PartialEq, Eq)]
-pub(crate) enum Answers {
+pub(crate) enum ReplyGroup {
     /// The call is of the sort.
-    Called(Calls),
+    Called(CallGroup),
     /// It took the item out of a queue.
     Takes(Item),
 }
@@ -41,15 +41,15 @@ pub(crate) enum Answers {
 #[derive(Clone, Copy, Debug, PartialEq, Eq)]
 pub(crate) enum Group {
     /// Those that aren't failed.
-    Counts(Calls),
+    Counts(CallGroup),
     /// Those that aren't failed, but for this one.
-    CountsBut(Calls, usize),
+    CountsBut(CallGroup, usize),
     /// Those that failed.
-    Fails(Calls),
+    Fails(CallGroup),
     /// Those that failed, were invoked before the second place, and hadn't ended before the first.
-    FailsWithin(Calls, usize, usize),
+    FailsWithin(CallGroup, usize, usize),
     /// Those that are ok.
-    Returned(Answers),
+    Returned(ReplyGroup),
     /// Those that are ok, leave some value in a register, and are before this one.
     Overwrites(usize),
     /// Those of them that stand between the two.
@@ -115,31 +115,31 @@ fn takes(call: &Call, reply: &Reply, item: Item) -> bool
 }
 
 /// Whether the call is of the sort.
-fn is_of_calls(call: &Call, calls: &Calls) -> bool
+fn is_of_calls(call: &Call, calls: &CallGroup) -> bool
     ensures { IsTrue result ↔ IsOfCalls calls.now call.now }
 {
     match calls {
-        Calls::Leaves(value) => leaves(call, *value),
-        Calls::Updates => updates(call),
-        Calls::Spends(value) => spends(call, *value),
-        Calls::Adds(item) => adds(call, *item),
-        Calls::Acquires => matches!(call, Call::Acquire),
-        Calls::Releases => matches!(call, Call::Release),
+        CallGroup::Leaves(value) => leaves(call, *value),
+        CallGroup::Updates => updates(call),
+        CallGroup::Spends(value) => spends(call, *value),
+        CallGroup::Adds(item) => adds(call, *item),
+        CallGroup::Acquires => matches!(call, Call::Acquire),
+        CallGroup::Releases => matches!(call, Call::Release),
     }
 }
 
 /// Whether the call with this reply is of the sort.
-fn is_of_answers(call: &Call, reply: &Reply, answers: &Answers) -> bool
+fn is_of_answers(call: &Call, reply: &Reply, answers: &ReplyGroup) -> bool
     ensures { IsTrue result ↔ IsOfAnswers answers.now call.now reply.now }
 {
     match answers {
-        Answers::Called(calls) => is_of_calls(call, calls),
-        Answers::Takes(item) => takes(call, reply, *item),
+        ReplyGroup::Called(calls) => is_of_calls(call, calls),
+        ReplyGroup::Takes(item) => takes(call, reply, *item),
     }
 }
 
 /// Whether the operation at the place counts, and its call is of the sort.
-fn counts(events: &[Event], ends: &[Option<usize>], at: usize, calls: &Calls) -> bool
+fn counts(events: &[Event], ends: &[Option<usize>], at: usize, calls: &CallGroup) -> bool
     requires table { IsNextTable events.now ends.now }
     requires within { at < length events.now }
     ensures { IsTrue result ↔ Counts events.now (IsOfCalls calls.now) at }
@@ -151,7 +151,7 @@ fn counts(events: &[Event], ends: &[Option<usize>], at: usize, calls: &Calls) ->
 }
 
 /// Whether the operation at the place failed, and its call is of the sort.
-fn fails(events: &[Event], ends: &[Option<usize>], at: usize, calls: &Calls) -> bool
+fn fails(events: &[Event], ends: &[Option<usize>], at: usize, calls: &CallGroup) -> bool
     requires table { IsNextTable events.now ends.now }
     requires within { at < length events.now }
     ensures { IsTrue result ↔ Fails events.now (IsOfCalls calls.now) at }
@@ -179,7 +179,7 @@ fn fails_within(
     events: &[Event],
     ends: &[Option<usize>],
     at: usize,
-    calls: &Calls,
+    calls: &CallGroup,
     places: (usize, usize),
 ) -> bool
     requires table { IsNextTable events.now ends.now }
@@ -193,7 +193,7 @@ fn fails_within(
 }
 
 /// Whether the operation at the place is ok, and its call with its reply is of the sort.
-fn returned(events: &[Event], ends: &[Option<usize>], at: usize, answers: &Answers) -> bool
+fn returned(events: &[Event], ends: &[Option<usize>], at: usize, answers: &ReplyGroup) -> bool
     requires table { IsNextTable events.now ends.now }
     requires within { at < length events.now }
     ensures { IsTrue result ↔ Returned events.now (IsOfAnswers answers.now) at }
@@ -233,7 +233,7 @@ fn overwrites(events: &[Event], ends: &[Option<usize>], at: usize, last: usize) 
     requires within { at < length events.now }
     ensures { IsTrue result ↔ Overwrites events.now last at }
 {
-    let made = returned(events, ends, at, &Answers::Called(Calls::Updates));
+    let made = returned(events, ends, at, &ReplyGroup::Called(CallGroup::Updates));
     let before = is_before(events, ends, at, last);
     made & before
 }

@@ -17,4 +17,4 @@ mod told;
 mod within;
 
 pub use reasons::put_reason;
-pub use told::{Told, put_called, put_failed, put_op, put_returned};
+pub use told::{ObjectEvents, put_called, put_failed, put_op, put_returned};

@@ -4,11 +4,11 @@ ghost use Rattle.lin_orders.specs.Tables.{IsNextTable};
 ghost use Rattle.lin_reasons.specs.Groups.{IsInGroup, IsListing};
 
 use crate::groups::{Group, is_in_group};
-use crate::told::{Told, end_of};
+use crate::told::{ObjectEvents, end_of};
 use std::alloc::{AllocError, Global};
 
 /// All operations of the group, rising.
-pub(crate) fn all_of(told: &Told, group: &Group, alloc: Global) -> Result<Vec<usize>, AllocError>
+pub(crate) fn all_of(told: &ObjectEvents, group: &Group, alloc: Global) -> Result<Vec<usize>, AllocError>
     requires { IsNextTable told.now.events.now told.now.ends.now }
     ensures { IfOk result (λ list. IsListing (IsInGroup told.now.events.now group.now) list.items) }
 {
@@ -23,7 +23,7 @@ pub(crate) fn all_of(told: &Told, group: &Group, alloc: Global) -> Result<Vec<us
 
 /// All operations of the group, the last called first.
 pub(crate) fn last_first(
-    told: &Told,
+    told: &ObjectEvents,
     group: &Group,
     alloc: Global,
 ) -> Result<Vec<usize>, AllocError>
@@ -36,7 +36,7 @@ pub(crate) fn last_first(
 }
 
 /// Whether the one operation ended before the other.
-fn ended_before(told: &Told, one: usize, other: usize) -> bool {
+fn ended_before(told: &ObjectEvents, one: usize, other: usize) -> bool {
     match (end_of(told, one), end_of(told, other)) {
         (Some(end), Some(later)) => end < later,
         _ => false,
@@ -44,7 +44,7 @@ fn ended_before(told: &Told, one: usize, other: usize) -> bool {
 }
 
 /// The operation of these that ended last.
-fn last_ended(told: &Told, first: usize, others: &[usize]) -> usize
+fn last_ended(told: &ObjectEvents, first: usize, others: &[usize]) -> usize
     ensures { (result ≡ first) ⊎ Contains others.now result }
 {
     let mut last = first;
@@ -57,7 +57,7 @@ fn last_ended(told: &Told, first: usize, others: &[usize]) -> usize
 }
 
 /// The operation of the group, which has some, that ended last.
-pub(crate) fn latest_of(told: &Told, group: &Group, alloc: Global) -> Result<usize, AllocError>
+pub(crate) fn latest_of(told: &ObjectEvents, group: &Group, alloc: Global) -> Result<usize, AllocError>
     requires table { IsNextTable told.now.events.now told.now.ends.now }
     requires some { (at : ℕ) × IsInGroup told.now.events.now group.now at }
     ensures { IfOk result (λ at. IsInGroup told.now.events.now group.now at) }

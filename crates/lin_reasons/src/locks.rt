@@ -7,11 +7,11 @@ ghost use Rattle.lin_reasons.specs.Lines.{counted_text, past_text, twice_by_text
 ghost use Rattle.lin_reasons.specs.Reasons.{ArePut, IsCountedTold};
 ghost use Rattle.lin_reasons.specs.Sides.{named_sides};
 
-use crate::groups::{Answers, Calls};
+use crate::groups::{ReplyGroup, CallGroup};
 use crate::queues::put_turn;
 use crate::series::put_how_often;
 use crate::sides::{Sides, name_sides, put_sides, sides_of};
-use crate::told::{Told, is_acquire, put_called};
+use crate::told::{ObjectEvents, is_acquire, put_called};
 use lin_events::Name;
 use lin_words::name_word;
 use std::alloc::{AllocError, Global};
@@ -34,7 +34,7 @@ pub(crate) fn put_past(text: &mut Vec<u8>, name: Name) -> Result<(), AllocError>
 /// Puts the lines last of a lock that had the one call twice, and can't have had the other between.
 fn put_twice_by(
     text: &mut Vec<u8>,
-    told: &Told,
+    told: &ObjectEvents,
     words: (Name, Name),
     first: usize,
     second: usize,
@@ -57,7 +57,7 @@ fn put_twice_by(
 /// acquired between.
 pub(crate) fn put_twice(
     text: &mut Vec<u8>,
-    told: &Told,
+    told: &ObjectEvents,
     first: usize,
     second: usize,
 ) -> Result<(), AllocError>
@@ -72,7 +72,7 @@ pub(crate) fn put_twice(
 /// Puts the lines last of a lock that had the one call too often, for how often it can have had the other.
 fn put_counted_lines(
     text: &mut Vec<u8>,
-    told: &Told,
+    told: &ObjectEvents,
     words: (Name, Name),
     sides: &Sides,
 ) -> Result<(), AllocError>
@@ -95,7 +95,7 @@ fn put_counted_lines(
 fn put_counted_by(
     text: &mut Vec<u8>,
     named: &mut Vec<usize>,
-    told: &Told,
+    told: &ObjectEvents,
     words: (Name, Name),
     sides: &Sides,
 ) -> Result<(), AllocError>
@@ -110,7 +110,7 @@ fn put_counted_by(
 pub(crate) fn put_counted(
     text: &mut Vec<u8>,
     named: &mut Vec<usize>,
-    told: &Told,
+    told: &ObjectEvents,
     alloc: Global,
 ) -> Result<(), AllocError>
     requires table { IsNextTable told.now.events.now told.now.ends.now }
@@ -119,8 +119,8 @@ pub(crate) fn put_counted(
 {
     let released = sides_of(
         told,
-        Answers::Called(Calls::Releases),
-        Calls::Acquires,
+        ReplyGroup::Called(CallGroup::Releases),
+        CallGroup::Acquires,
         alloc,
     )?;
     if released.may.len() < released.done.len() {
@@ -129,8 +129,8 @@ pub(crate) fn put_counted(
     }
     let acquired = sides_of(
         told,
-        Answers::Called(Calls::Acquires),
-        Calls::Releases,
+        ReplyGroup::Called(CallGroup::Acquires),
+        CallGroup::Releases,
         alloc,
     )?;
     put_counted_by(text, named, told, (Name::Acquire, Name::Release), &acquired)?;

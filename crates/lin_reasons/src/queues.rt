@@ -4,13 +4,13 @@ ghost use Rattle.lin_orders.specs.Tables.{IsNextTable};
 ghost use Rattle.lin_reasons.specs.Lines.{inside_text, not_taken_out_text, passed_text, passed_why, taken_out_text, taken_text, turn_text};
 ghost use Rattle.lin_reasons.specs.Reasons.{ArePut, IsCertified, IsPassedTold, IsReasonOfQueue, IsTakenTold};
 
-use crate::groups::{Answers, Calls, Group};
+use crate::groups::{ReplyGroup, CallGroup, Group};
 use crate::listing::all_of;
 use crate::naming::{name_pair, name_some};
 use crate::registers::put_register_reason;
 use crate::series::put_how_often;
 use crate::sides::{Sides, name_sides, put_sides, sides_of};
-use crate::told::{Told, put_in_turn, put_returned};
+use crate::told::{ObjectEvents, put_in_turn, put_returned};
 use lin_certificates::Certificate;
 use lin_events::Item;
 use lin_words::put_short_item;
@@ -19,7 +19,7 @@ use std::alloc::{AllocError, Global};
 /// Puts a line last that begins so and says that the one operation returned and the other was called.
 pub(crate) fn put_turn(
     text: &mut Vec<u8>,
-    told: &Told,
+    told: &ObjectEvents,
     head: &[u8],
     first: usize,
     second: usize,
@@ -35,7 +35,7 @@ pub(crate) fn put_turn(
 /// Puts the lines last of an item that was taken out oftener than it can have been put in.
 fn put_taken_lines(
     text: &mut Vec<u8>,
-    told: &Told,
+    told: &ObjectEvents,
     item: Item,
     sides: &Sides,
 ) -> Result<(), AllocError>
@@ -56,14 +56,14 @@ fn put_taken_lines(
 fn put_taken(
     text: &mut Vec<u8>,
     named: &mut Vec<usize>,
-    told: &Told,
+    told: &ObjectEvents,
     item: Item,
     alloc: Global,
 ) -> Result<(), AllocError>
     requires { IsNextTable told.now.events.now told.now.ends.now }
     ensures { OnOk result (ArePut (IsTakenTold told.now item) text.old.items text.new.items named.old.items named.new.items) }
 {
-    let sides = sides_of(told, Answers::Takes(item), Calls::Adds(item), alloc)?;
+    let sides = sides_of(told, ReplyGroup::Takes(item), CallGroup::Adds(item), alloc)?;
     put_taken_lines(text, told, item, &sides)?;
     name_sides(named, &sides)?;
     Ok(())
@@ -72,7 +72,7 @@ fn put_taken(
 /// Puts a line last that says that the item wasn't taken out before the dequeue.
 fn put_not_taken_out(
     text: &mut Vec<u8>,
-    told: &Told,
+    told: &ObjectEvents,
     dequeue: usize,
     item: Item,
 ) -> Result<(), AllocError>
@@ -89,7 +89,7 @@ fn put_not_taken_out(
 /// Puts a line last that says that the item was taken out only behind the dequeue, first by this one, or not at all.
 fn put_taken_out(
     text: &mut Vec<u8>,
-    told: &Told,
+    told: &ObjectEvents,
     dequeue: usize,
     item: Item,
     taker: Option<usize>,
@@ -105,7 +105,7 @@ fn put_taken_out(
 /// Puts a line last that says which item passed which.
 fn put_passed_why(
     text: &mut Vec<u8>,
-    told: &Told,
+    told: &ObjectEvents,
     item: Item,
     other: Item,
 ) -> Result<(), AllocError>
@@ -122,7 +122,7 @@ fn put_passed_why(
 /// Puts the lines last of an item that the other one passed, and that was taken out first by this dequeue, or not at all.
 fn put_passed_lines(
     text: &mut Vec<u8>,
-    told: &Told,
+    told: &ObjectEvents,
     puts: (usize, usize),
     dequeue: usize,
     item: Item,
@@ -151,7 +151,7 @@ fn first_of(list: &[usize]) -> Option<usize>
 fn put_passed(
     text: &mut Vec<u8>,
     named: &mut Vec<usize>,
-    told: &Told,
+    told: &ObjectEvents,
     operations: (usize, usize, usize),
     item: Item,
     other: Item,
@@ -161,7 +161,7 @@ fn put_passed(
     ensures { OnOk result (ArePut (IsPassedTold told.now operations.0 operations.1 operations.2 item other) text.old.items text.new.items named.old.items named.new.items) }
 {
     let (enqueue, later, dequeue) = operations;
-    let group = Group::Returned(Answers::Takes(item));
+    let group = Group::Returned(ReplyGroup::Takes(item));
     let takes = all_of(told, &group, alloc)?;
     let taker = first_of(takes.as_slice());
     put_passed_lines(text, told, (enqueue, later), dequeue, item, other, taker)?;
@@ -174,7 +174,7 @@ fn put_passed(
 /// Puts the lines last of an item that was in the queue when the dequeue found nothing.
 fn put_inside(
     text: &mut Vec<u8>,
-    told: &Told,
+    told: &ObjectEvents,
     enqueue: usize,
     dequeue: usize,
     item: Item,
@@ -197,7 +197,7 @@ fn put_inside(
 pub(crate) fn put_queue_reason(
     text: &mut Vec<u8>,
     named: &mut Vec<usize>,
-    told: &Told,
+    told: &ObjectEvents,
     certificate: &Certificate,
     alloc: Global,
 ) -> Result<(), AllocError>

@@ -6,7 +6,7 @@ ghost use Rattle.lin_reasons.specs.Reasons.{ArePut, IsCertified, IsReason, IsTol
 use crate::counts::put_count_reason;
 use crate::locks::{put_counted, put_twice};
 use crate::naming::{in_order, name_pair};
-use crate::told::Told;
+use crate::told::ObjectEvents;
 use crate::within::put_within;
 use lin_certificates::Certificate;
 use std::alloc::{AllocError, Global};
@@ -15,7 +15,7 @@ use std::alloc::{AllocError, Global};
 fn put_any_reason(
     text: &mut Vec<u8>,
     named: &mut Vec<usize>,
-    told: &Told,
+    told: &ObjectEvents,
     certificate: &Certificate,
     alloc: Global,
 ) -> Result<(), AllocError>
@@ -41,7 +41,7 @@ fn put_any_reason(
 /// their invocations among the object's own events, rising, each once.
 pub fn put_reason(
     text: &mut Vec<u8>,
-    told: &Told,
+    told: &ObjectEvents,
     certificate: &Certificate,
     alloc: Global,
 ) -> Result<Vec<usize>, AllocError>

@@ -7,11 +7,11 @@ ghost use Rattle.lin_reasons.specs.Groups.{IsBetween};
 ghost use Rattle.lin_reasons.specs.Lines.{crossed_back_text, crossed_text, first_over_text, held_text, members_why, more_updates_text, overwritten_text, overwritten_why, pair_text, reply_why, shape_text, shape_why, unwritten_text, updates_count_text, value_why};
 ghost use Rattle.lin_reasons.specs.Reasons.{ArePut, IsCertified, IsFirstOver, IsOverwrittenTold, IsReasonOfRegister, IsUnwrittenTold, most_told as most_of, named_over};
 
-use crate::groups::{Calls, Group};
+use crate::groups::{CallGroup, Group};
 use crate::listing::{all_of, latest_of};
 use crate::naming::{name_four, name_pairs, name_some};
 use crate::series::{FIRSTS, firsts_of, put_fact, put_failures};
-use crate::told::{Told, Verb, put_called, put_end_spot, put_in_turn, reply_of};
+use crate::told::{ObjectEvents, Verb, put_called, put_end_spot, put_in_turn, reply_of};
 use lin_certificates::Certificate;
 use lin_events::{Item, Reply, Val};
 use lin_texts::put_number;
@@ -19,7 +19,7 @@ use lin_words::{put_short_item, put_value};
 use std::alloc::{AllocError, Global};
 
 /// Puts a line last that says that a read of a set gave the value.
-fn put_value_why(text: &mut Vec<u8>, told: &Told, value: Val) -> Result<(), AllocError>
+fn put_value_why(text: &mut Vec<u8>, told: &ObjectEvents, value: Val) -> Result<(), AllocError>
     ensures { OnOk result (text.new.items ≡ text.old.items ++ value_why told.now value) }
 {
     text.extend_from_slice(b"why: a read of a set gives members, not ")?;
@@ -37,7 +37,7 @@ fn put_members_why(text: &mut Vec<u8>) -> Result<(), AllocError>
 }
 
 /// Puts a line last that says what a read gave that can't be.
-fn put_reply_why(text: &mut Vec<u8>, told: &Told, reply: &Reply) -> Result<(), AllocError>
+fn put_reply_why(text: &mut Vec<u8>, told: &ObjectEvents, reply: &Reply) -> Result<(), AllocError>
     ensures { OnOk result (text.new.items ≡ text.old.items ++ reply_why told.now reply.now) }
 {
     match reply {
@@ -48,7 +48,7 @@ fn put_reply_why(text: &mut Vec<u8>, told: &Told, reply: &Reply) -> Result<(), A
 }
 
 /// Puts a line last that says what a read gave that can't be, if it gave something.
-fn put_shape_why(text: &mut Vec<u8>, told: &Told, reply: Option<&Reply>) -> Result<(), AllocError>
+fn put_shape_why(text: &mut Vec<u8>, told: &ObjectEvents, reply: Option<&Reply>) -> Result<(), AllocError>
     ensures { OnOk result (text.new.items ≡ text.old.items ++ shape_why told.now (option_map (λ r. r.now) reply.entry)) }
 {
     match reply {
@@ -58,7 +58,7 @@ fn put_shape_why(text: &mut Vec<u8>, told: &Told, reply: Option<&Reply>) -> Resu
 }
 
 /// Puts the lines last of a read that gave what it can't have.
-pub(crate) fn put_shape(text: &mut Vec<u8>, told: &Told, read: usize) -> Result<(), AllocError>
+pub(crate) fn put_shape(text: &mut Vec<u8>, told: &ObjectEvents, read: usize) -> Result<(), AllocError>
     ensures { OnOk result (text.new.items ≡ text.old.items ++ shape_text told.now read) }
 {
     put_shape_why(text, told, reply_of(told, read))?;
@@ -68,7 +68,7 @@ pub(crate) fn put_shape(text: &mut Vec<u8>, told: &Told, read: usize) -> Result<
 /// Puts the lines last that say that nothing leaves the item that the operation needs: these failed.
 fn put_unwritten_lines(
     text: &mut Vec<u8>,
-    told: &Told,
+    told: &ObjectEvents,
     operation: usize,
     item: Item,
     failed: &[usize],
@@ -87,7 +87,7 @@ fn put_unwritten_lines(
 fn put_unwritten(
     text: &mut Vec<u8>,
     named: &mut Vec<usize>,
-    told: &Told,
+    told: &ObjectEvents,
     operation: usize,
     item: Item,
     alloc: Global,
@@ -95,7 +95,7 @@ fn put_unwritten(
     requires { IsNextTable told.now.events.now told.now.ends.now }
     ensures { OnOk result (ArePut (IsUnwrittenTold told.now operation item) text.old.items text.new.items named.old.items named.new.items) }
 {
-    let group = Group::Fails(Calls::Leaves(Val::Item(item)));
+    let group = Group::Fails(CallGroup::Leaves(Val::Item(item)));
     let list = all_of(told, &group, alloc)?;
     let failed = list.as_slice();
     put_unwritten_lines(text, told, operation, item, failed)?;
@@ -116,7 +116,7 @@ fn most_told(value: Val) -> usize
 
 /// Where the value is the one that a register begins with, the operation that left some value before the other one, and ended last.
 fn first_over(
-    told: &Told,
+    told: &ObjectEvents,
     operation: usize,
     value: Val,
     alloc: Global,
@@ -136,7 +136,7 @@ fn first_over(
 
 /// Each of these operations, and with it the one that leaves some value between it and the other one, and ended last.
 fn pairs_of(
-    told: &Told,
+    told: &ObjectEvents,
     operation: usize,
     others: &[usize],
     alloc: Global,
@@ -157,7 +157,7 @@ fn pairs_of(
 /// Puts a line last that says before which operation the value was overwritten.
 fn put_overwritten_why(
     text: &mut Vec<u8>,
-    told: &Told,
+    told: &ObjectEvents,
     operation: usize,
     value: Val,
 ) -> Result<(), AllocError>
@@ -172,7 +172,7 @@ fn put_overwritten_why(
 }
 
 /// Puts a line last of the operation that left some value first, if there is one.
-fn put_first_over(text: &mut Vec<u8>, told: &Told, first: Option<usize>) -> Result<(), AllocError>
+fn put_first_over(text: &mut Vec<u8>, told: &ObjectEvents, first: Option<usize>) -> Result<(), AllocError>
     ensures { OnOk result (text.new.items ≡ text.old.items ++ first_over_text told.now first) }
 {
     match first {
@@ -182,7 +182,7 @@ fn put_first_over(text: &mut Vec<u8>, told: &Told, first: Option<usize>) -> Resu
 }
 
 /// Puts a line last of an operation that leaves the value, and of one that leaves some value behind it.
-fn put_pair(text: &mut Vec<u8>, told: &Told, pair: (usize, usize)) -> Result<(), AllocError>
+fn put_pair(text: &mut Vec<u8>, told: &ObjectEvents, pair: (usize, usize)) -> Result<(), AllocError>
     ensures { OnOk result (text.new.items ≡ text.old.items ++ pair_text told.now pair) }
 {
     text.extend_from_slice(b"  ")?;
@@ -194,7 +194,7 @@ fn put_pair(text: &mut Vec<u8>, told: &Told, pair: (usize, usize)) -> Result<(),
 }
 
 /// Puts a line last for each pair.
-fn put_pairs(text: &mut Vec<u8>, told: &Told, pairs: &[(usize, usize)]) -> Result<(), AllocError>
+fn put_pairs(text: &mut Vec<u8>, told: &ObjectEvents, pairs: &[(usize, usize)]) -> Result<(), AllocError>
     ensures { OnOk result (text.new.items ≡ text.old.items ++ flat_map (pair_text told.now) pairs.now) }
 {
     for pair in pairs {
@@ -206,7 +206,7 @@ fn put_pairs(text: &mut Vec<u8>, told: &Told, pairs: &[(usize, usize)]) -> Resul
 /// Puts a line last that says how many more operations leave the value.
 fn put_updates_count(
     text: &mut Vec<u8>,
-    told: &Told,
+    told: &ObjectEvents,
     value: Val,
     more: usize,
 ) -> Result<(), AllocError>
@@ -223,7 +223,7 @@ fn put_updates_count(
 /// Puts a line last that says how many more operations leave the value, if any do.
 fn put_more_updates(
     text: &mut Vec<u8>,
-    told: &Told,
+    told: &ObjectEvents,
     value: Val,
     more: usize,
 ) -> Result<(), AllocError>
@@ -238,7 +238,7 @@ fn put_more_updates(
 /// Puts the lines last of a value that was overwritten before the operation that needs it: as these pairs tell, and so many more.
 fn put_overwritten_lines(
     text: &mut Vec<u8>,
-    told: &Told,
+    told: &ObjectEvents,
     needed: (usize, Val),
     first: Option<usize>,
     pairs: &[(usize, usize)],
@@ -270,7 +270,7 @@ fn name_overwritten(
 fn put_overwritten(
     text: &mut Vec<u8>,
     named: &mut Vec<usize>,
-    told: &Told,
+    told: &ObjectEvents,
     operation: usize,
     value: Val,
     alloc: Global,
@@ -280,7 +280,7 @@ fn put_overwritten(
     ensures { OnOk result (ArePut (IsOverwrittenTold told.now operation value) text.old.items text.new.items named.old.items named.new.items) }
 {
     let first = first_over(told, operation, value, alloc)?;
-    let group = Group::CountsBut(Calls::Leaves(value), operation);
+    let group = Group::CountsBut(CallGroup::Leaves(value), operation);
     let list = all_of(told, &group, alloc)?;
     let others = list.as_slice();
     let most = most_told(value);
@@ -295,7 +295,7 @@ fn put_overwritten(
 /// Puts a line last that says that the one value was held before the other.
 fn put_held(
     text: &mut Vec<u8>,
-    told: &Told,
+    told: &ObjectEvents,
     value: Val,
     other: Val,
     pair: (usize, usize),
@@ -315,7 +315,7 @@ fn put_held(
 /// Puts last that each value is left by one operation, and a line of these two; or that nothing leaves nil.
 fn put_crossed_back(
     text: &mut Vec<u8>,
-    told: &Told,
+    told: &ObjectEvents,
     value: Val,
     other: Val,
     back: Option<(usize, usize)>,
@@ -334,7 +334,7 @@ fn put_crossed_back(
 /// Puts the lines last of two values that were held in turn, and of which the first was held again.
 fn put_crossed(
     text: &mut Vec<u8>,
-    told: &Told,
+    told: &ObjectEvents,
     value: Val,
     other: Val,
     pair: (usize, usize),
@@ -355,7 +355,7 @@ fn put_crossed(
 pub(crate) fn put_register_reason(
     text: &mut Vec<u8>,
     named: &mut Vec<usize>,
-    told: &Told,
+    told: &ObjectEvents,
     certificate: &Certificate,
     alloc: Global,
 ) -> Result<(), AllocError>

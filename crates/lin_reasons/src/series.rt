@@ -5,7 +5,7 @@ ghost use Rattle.lin_reasons.specs.Series.{fact_text, facts_text, failures_text,
 ghost use Rattle.lin_reasons.specs.Telling.{did_text};
 ghost use Rattle.lin_reasons.specs.declared.told.Verb.TheVariants.{Failed};
 
-use crate::told::{Told, Verb, put_did};
+use crate::told::{ObjectEvents, Verb, put_did};
 use lin_texts::put_number;
 use std::alloc::AllocError;
 
@@ -56,7 +56,7 @@ pub(crate) fn put_how_often(line: &mut Vec<u8>, list: &[usize]) -> Result<(), Al
 /// Puts a line last that tells of an operation.
 pub(crate) fn put_fact(
     text: &mut Vec<u8>,
-    told: &Told,
+    told: &ObjectEvents,
     verb: Verb,
     at: usize,
 ) -> Result<(), AllocError>
@@ -71,7 +71,7 @@ pub(crate) fn put_fact(
 /// Puts last what is told of each of these operations, with commas between them.
 fn put_all_did(
     line: &mut Vec<u8>,
-    told: &Told,
+    told: &ObjectEvents,
     verb: Verb,
     list: &[usize],
 ) -> Result<(), AllocError>
@@ -91,7 +91,7 @@ fn put_all_did(
 /// Puts a line last that tells of these operations, if there are any.
 pub(crate) fn put_facts(
     text: &mut Vec<u8>,
-    told: &Told,
+    told: &ObjectEvents,
     verb: Verb,
     list: &[usize],
 ) -> Result<(), AllocError>
@@ -108,7 +108,7 @@ pub(crate) fn put_facts(
 }
 
 /// Puts a line last for each of these operations, which failed.
-fn put_each_failed(text: &mut Vec<u8>, told: &Told, list: &[usize]) -> Result<(), AllocError>
+fn put_each_failed(text: &mut Vec<u8>, told: &ObjectEvents, list: &[usize]) -> Result<(), AllocError>
     ensures { OnOk result (text.new.items ≡ text.old.items ++ flat_map (fact_text told.now Failed) list.now) }
 {
     for at in list {
@@ -120,7 +120,7 @@ fn put_each_failed(text: &mut Vec<u8>, told: &Told, list: &[usize]) -> Result<()
 /// Puts a line last for each of the first of these operations, which failed, or the line that there is none.
 pub(crate) fn put_failures(
     text: &mut Vec<u8>,
-    told: &Told,
+    told: &ObjectEvents,
     none: &[u8],
     failed: &[usize],
 ) -> Result<(), AllocError>

@@ -4,12 +4,12 @@ ghost use Rattle.lin_orders.specs.Tables.{IsNextTable};
 ghost use Rattle.lin_reasons.specs.Lines.{found_text, in_before_text, late_text, lost_text, split_text, unadded_text};
 ghost use Rattle.lin_reasons.specs.Reasons.{ArePut, IsCertified, IsReasonOfSet, IsUnaddedTold};
 
-use crate::groups::{Calls, Group};
+use crate::groups::{CallGroup, Group};
 use crate::listing::all_of;
 use crate::naming::name_pair;
 use crate::queues::put_queue_reason;
 use crate::series::{FIRSTS, firsts_of, put_fact, put_failures};
-use crate::told::{Told, Verb, put_called, put_had, put_returned};
+use crate::told::{ObjectEvents, Verb, put_called, put_had, put_returned};
 use lin_certificates::Certificate;
 use lin_events::Item;
 use lin_words::put_short_item;
@@ -18,7 +18,7 @@ use std::alloc::{AllocError, Global};
 /// Puts the lines last that say that nothing adds the item that the read has: these failed.
 fn put_unadded_lines(
     text: &mut Vec<u8>,
-    told: &Told,
+    told: &ObjectEvents,
     read: usize,
     item: Item,
     failed: &[usize],
@@ -37,7 +37,7 @@ fn put_unadded_lines(
 fn put_unadded(
     text: &mut Vec<u8>,
     named: &mut Vec<usize>,
-    told: &Told,
+    told: &ObjectEvents,
     read: usize,
     item: Item,
     alloc: Global,
@@ -45,7 +45,7 @@ fn put_unadded(
     requires { IsNextTable told.now.events.now told.now.ends.now }
     ensures { OnOk result (ArePut (IsUnaddedTold told.now read item) text.old.items text.new.items named.old.items named.new.items) }
 {
-    let group = Group::Fails(Calls::Adds(item));
+    let group = Group::Fails(CallGroup::Adds(item));
     let list = all_of(told, &group, alloc)?;
     let failed = list.as_slice();
     put_unadded_lines(text, told, read, item, failed)?;
@@ -57,7 +57,7 @@ fn put_unadded(
 /// Puts a line last that says that the set had the item before the later operation was called.
 fn put_in_before(
     text: &mut Vec<u8>,
-    told: &Told,
+    told: &ObjectEvents,
     earlier: usize,
     item: Item,
     later: usize,
@@ -75,7 +75,7 @@ fn put_in_before(
 /// Puts a line last that says that the read found the one item and lacks the other.
 fn put_found(
     text: &mut Vec<u8>,
-    told: &Told,
+    told: &ObjectEvents,
     read: usize,
     item: Item,
     other: Item,
@@ -95,7 +95,7 @@ fn put_found(
 /// Puts the lines last of an item that was lost.
 fn put_lost(
     text: &mut Vec<u8>,
-    told: &Told,
+    told: &ObjectEvents,
     earlier: usize,
     read: usize,
     item: Item,
@@ -117,7 +117,7 @@ fn put_lost(
 /// Puts the lines last of two reads, each of which has an item that the other lacks.
 fn put_split(
     text: &mut Vec<u8>,
-    told: &Told,
+    told: &ObjectEvents,
     reads: (usize, usize),
     item: Item,
     other: Item,
@@ -133,7 +133,7 @@ fn put_split(
 /// Puts the lines last of an item that was in before the other one was added.
 fn put_late(
     text: &mut Vec<u8>,
-    told: &Told,
+    told: &ObjectEvents,
     before: (usize, usize),
     read: usize,
     item: Item,
@@ -155,7 +155,7 @@ fn put_late(
 pub(crate) fn put_set_reason(
     text: &mut Vec<u8>,
     named: &mut Vec<usize>,
-    told: &Told,
+    told: &ObjectEvents,
     certificate: &Certificate,
     alloc: Global,
 ) -> Result<(), AllocError>

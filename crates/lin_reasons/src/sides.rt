@@ -4,10 +4,10 @@ ghost use Rattle.lin_orders.specs.Tables.{IsNextTable};
 ghost use Rattle.lin_reasons.specs.Series.{sides_text};
 ghost use Rattle.lin_reasons.specs.Sides.{AreSides, named_sides};
 
-use crate::groups::{Answers, Calls, Group};
+use crate::groups::{ReplyGroup, CallGroup, Group};
 use crate::listing::all_of;
 use crate::series::{FIRSTS, firsts_of, put_facts};
-use crate::told::{Told, Verb};
+use crate::told::{ObjectEvents, Verb};
 use std::alloc::{AllocError, Global};
 
 /// All operations that were done, those of the other side that aren't failed, and those of that side that failed.
@@ -20,9 +20,9 @@ pub(crate) struct Sides {
 
 /// The operations that were done, and those of the other side.
 pub(crate) fn sides_of(
-    told: &Told,
-    answers: Answers,
-    calls: Calls,
+    told: &ObjectEvents,
+    answers: ReplyGroup,
+    calls: CallGroup,
     alloc: Global,
 ) -> Result<Sides, AllocError>
     requires { IsNextTable told.now.events.now told.now.ends.now }
@@ -35,7 +35,7 @@ pub(crate) fn sides_of(
 }
 
 /// Puts three lines last, of what was done, of what counts on the other side, and of what failed there; each only where there is any.
-pub(crate) fn put_sides(text: &mut Vec<u8>, told: &Told, sides: &Sides) -> Result<(), AllocError>
+pub(crate) fn put_sides(text: &mut Vec<u8>, told: &ObjectEvents, sides: &Sides) -> Result<(), AllocError>
     ensures { OnOk result (text.new.items ≡ text.old.items ++ sides_text told.now sides.now.done.items sides.now.may.items sides.now.failed.items) }
 {
     put_facts(text, told, Verb::Returned, sides.done.as_slice())?;

@@ -9,7 +9,7 @@ use crate::groups::Group;
 use crate::listing::{all_of, last_first};
 use crate::naming::name_pair;
 use crate::series::{FIRSTS, firsts_of, put_facts, put_how_often};
-use crate::told::{Told, Verb, put_called, put_returned};
+use crate::told::{ObjectEvents, Verb, put_called, put_returned};
 use lin_certificates::{Answers, Calls, Which};
 use lin_events::Item;
 use lin_texts::put_number;
@@ -25,7 +25,7 @@ struct Surplus {
 
 /// The enqueues that are before the place, and the dequeues that may have taken something out ahead of the one.
 fn surplus_of(
-    told: &Told,
+    told: &ObjectEvents,
     place: usize,
     dequeue: usize,
     alloc: Global,
@@ -70,7 +70,7 @@ fn put_count_of(text: &mut Vec<u8>, list: &[usize]) -> Result<(), AllocError>
 /// Begins a line on how many items were put in before the operation at the place was called, and how many can have been taken out.
 fn put_surplus_why(
     text: &mut Vec<u8>,
-    told: &Told,
+    told: &ObjectEvents,
     place: usize,
     surplus: &Surplus,
 ) -> Result<(), AllocError>
@@ -87,7 +87,7 @@ fn put_surplus_why(
 }
 
 /// Puts a line last of the last enqueues, and one of the last dequeues.
-fn put_surplus(text: &mut Vec<u8>, told: &Told, surplus: &Surplus) -> Result<(), AllocError>
+fn put_surplus(text: &mut Vec<u8>, told: &ObjectEvents, surplus: &Surplus) -> Result<(), AllocError>
     ensures { OnOk result (text.new.items ≡ text.old.items ++ surplus_text told.now surplus.now.puts.items surplus.now.takes.items) }
 {
     put_facts(text, told, Verb::Returned, surplus.puts.as_slice())?;
@@ -105,7 +105,7 @@ fn name_surplus(named: &mut Vec<usize>, surplus: &Surplus) -> Result<(), AllocEr
 /// Puts the lines last of a dequeue that found nothing.
 fn put_remaining_lines(
     text: &mut Vec<u8>,
-    told: &Told,
+    told: &ObjectEvents,
     dequeue: usize,
     surplus: &Surplus,
 ) -> Result<(), AllocError>
@@ -121,7 +121,7 @@ fn put_remaining_lines(
 pub(crate) fn put_remaining(
     text: &mut Vec<u8>,
     named: &mut Vec<usize>,
-    told: &Told,
+    told: &ObjectEvents,
     dequeue: usize,
     alloc: Global,
 ) -> Result<(), AllocError>
@@ -138,7 +138,7 @@ pub(crate) fn put_remaining(
 /// Puts a line last on how often the item was put in earlier, and taken out.
 fn put_earlier_line(
     text: &mut Vec<u8>,
-    told: &Told,
+    told: &ObjectEvents,
     dequeue: usize,
     item: Item,
     early: &[usize],
@@ -161,7 +161,7 @@ fn put_earlier_line(
 /// Puts such a line last if the item may have been put in earlier.
 fn put_earlier(
     text: &mut Vec<u8>,
-    told: &Told,
+    told: &ObjectEvents,
     dequeue: usize,
     item: Item,
     early: &[usize],
@@ -178,7 +178,7 @@ fn put_earlier(
 /// Puts a line last of a dequeue that took the item, which was put in at the one place or behind.
 fn put_preceded_why(
     text: &mut Vec<u8>,
-    told: &Told,
+    told: &ObjectEvents,
     operations: (usize, usize),
     item: Item,
     surplus: &Surplus,
@@ -196,7 +196,7 @@ fn put_preceded_why(
 /// Puts the lines last of a dequeue that took the item, ahead of which too many were put in.
 fn put_preceded_lines(
     text: &mut Vec<u8>,
-    told: &Told,
+    told: &ObjectEvents,
     operations: (usize, usize),
     item: Item,
     surplus: &Surplus,
@@ -216,7 +216,7 @@ fn put_preceded_lines(
 pub(crate) fn put_preceded(
     text: &mut Vec<u8>,
     named: &mut Vec<usize>,
-    told: &Told,
+    told: &ObjectEvents,
     operations: (usize, usize),
     item: Item,
     alloc: Global,

@@ -10,7 +10,7 @@ use std::alloc::AllocError;
 
 /// The events of one object, and where they stand in the whole history.
 #[derive(Clone, Copy)]
-pub struct Told<'a> {
+pub struct ObjectEvents<'a> {
     /// The object's own.
     pub events: &'a [Event],
     /// For each of these the next one of its process, as `lin_orders::ends_of` gives it.
@@ -32,7 +32,7 @@ pub(crate) enum Verb {
 }
 
 /// Where an event of the object stands in the whole history.
-pub(crate) fn position_of(told: &Told, at: usize) -> usize
+pub(crate) fn position_of(told: &ObjectEvents, at: usize) -> usize
     ensures { result ≡ position told.now at }
 {
     match told.picks.get(at) {
@@ -42,7 +42,7 @@ pub(crate) fn position_of(told: &Told, at: usize) -> usize
 }
 
 /// The end of an operation, if there is one.
-pub(crate) fn end_of(told: &Told, at: usize) -> Option<usize>
+pub(crate) fn end_of(told: &ObjectEvents, at: usize) -> Option<usize>
     ensures { result ≡ end_at told.now at }
 {
     match told.ends.get(at) {
@@ -82,14 +82,14 @@ fn without_members<'a>(reply: Option<&'a Reply>) -> Option<&'a Reply>
 }
 
 /// The reply of an operation, if it is ok.
-pub(crate) fn reply_of<'a>(told: &Told<'a>, at: usize) -> Option<&'a Reply>
+pub(crate) fn reply_of<'a>(told: &ObjectEvents<'a>, at: usize) -> Option<&'a Reply>
     ensures { option_map (λ r. r.now) result ≡ reply_behind_end told.now.events.now (end_at told.now at) }
 {
     reply_behind(told.events, end_of(told, at))
 }
 
 /// Whether an operation reads.
-pub(crate) fn is_read(told: &Told, at: usize) -> bool
+pub(crate) fn is_read(told: &ObjectEvents, at: usize) -> bool
     ensures { result ≡ calls_read (call_in (slice_get told.now.events.now at)) }
 {
     let Some(event) = told.events.get(at) else {
@@ -102,7 +102,7 @@ pub(crate) fn is_read(told: &Told, at: usize) -> bool
 }
 
 /// Whether an operation acquires a lock.
-pub(crate) fn is_acquire(told: &Told, at: usize) -> bool
+pub(crate) fn is_acquire(told: &ObjectEvents, at: usize) -> bool
     ensures { result ≡ calls_acquire (call_in (slice_get told.now.events.now at)) }
 {
     let Some(event) = told.events.get(at) else {
@@ -115,14 +115,14 @@ pub(crate) fn is_acquire(told: &Told, at: usize) -> bool
 }
 
 /// Puts last where an event of the object stands.
-pub(crate) fn put_spot_at(line: &mut Vec<u8>, told: &Told, at: usize) -> Result<(), AllocError>
+pub(crate) fn put_spot_at(line: &mut Vec<u8>, told: &ObjectEvents, at: usize) -> Result<(), AllocError>
     ensures { OnOk result (line.new.items ≡ line.old.items ++ spot_at told.now at) }
 {
     put_spot(line, told.places, position_of(told, at))
 }
 
 /// Puts last where an operation ended.
-pub(crate) fn put_end_spot(line: &mut Vec<u8>, told: &Told, at: usize) -> Result<(), AllocError>
+pub(crate) fn put_end_spot(line: &mut Vec<u8>, told: &ObjectEvents, at: usize) -> Result<(), AllocError>
     ensures { OnOk result (line.new.items ≡ line.old.items ++ end_spot told.now at) }
 {
     match end_of(told, at) {
@@ -133,7 +133,7 @@ pub(crate) fn put_end_spot(line: &mut Vec<u8>, told: &Told, at: usize) -> Result
 
 /// Puts the words of an operation last, with its reply where it is ok and has one that says more than that it was done; members are left
 /// out.
-pub fn put_op(line: &mut Vec<u8>, told: &Told, at: usize) -> Result<(), AllocError>
+pub fn put_op(line: &mut Vec<u8>, told: &ObjectEvents, at: usize) -> Result<(), AllocError>
     ensures { OnOk result (line.new.items ≡ line.old.items ++ op_text told.now at) }
 {
     let reply = without_members(reply_of(told, at));
@@ -147,7 +147,7 @@ pub fn put_op(line: &mut Vec<u8>, told: &Told, at: usize) -> Result<(), AllocErr
 }
 
 /// Puts last that an operation returned, and where.
-pub fn put_returned(line: &mut Vec<u8>, told: &Told, at: usize) -> Result<(), AllocError>
+pub fn put_returned(line: &mut Vec<u8>, told: &ObjectEvents, at: usize) -> Result<(), AllocError>
     ensures { OnOk result (line.new.items ≡ line.old.items ++ returned_text told.now at) }
 {
     put_op(line, told, at)?;
@@ -157,7 +157,7 @@ pub fn put_returned(line: &mut Vec<u8>, told: &Told, at: usize) -> Result<(), Al
 }
 
 /// Puts last that an operation was called, and where.
-pub fn put_called(line: &mut Vec<u8>, told: &Told, at: usize) -> Result<(), AllocError>
+pub fn put_called(line: &mut Vec<u8>, told: &ObjectEvents, at: usize) -> Result<(), AllocError>
     ensures { OnOk result (line.new.items ≡ line.old.items ++ called_text told.now at) }
 {
     put_op(line, told, at)?;
@@ -167,7 +167,7 @@ pub fn put_called(line: &mut Vec<u8>, told: &Told, at: usize) -> Result<(), Allo
 }
 
 /// Puts last that an operation failed, and where.
-pub fn put_failed(line: &mut Vec<u8>, told: &Told, at: usize) -> Result<(), AllocError>
+pub fn put_failed(line: &mut Vec<u8>, told: &ObjectEvents, at: usize) -> Result<(), AllocError>
     ensures { OnOk result (line.new.items ≡ line.old.items ++ failed_text told.now at) }
 {
     put_op(line, told, at)?;
@@ -178,7 +178,7 @@ pub fn put_failed(line: &mut Vec<u8>, told: &Told, at: usize) -> Result<(), Allo
 /// Puts last what is told of an operation.
 pub(crate) fn put_did(
     line: &mut Vec<u8>,
-    told: &Told,
+    told: &ObjectEvents,
     verb: Verb,
     at: usize,
 ) -> Result<(), AllocError>
@@ -194,7 +194,7 @@ pub(crate) fn put_did(
 /// Puts last that the one operation returned and the other was called.
 pub(crate) fn put_in_turn(
     line: &mut Vec<u8>,
-    told: &Told,
+    told: &ObjectEvents,
     first: usize,
     second: usize,
 ) -> Result<(), AllocError>
@@ -206,7 +206,7 @@ pub(crate) fn put_in_turn(
 }
 
 /// Puts last that a read found the item.
-fn put_found(line: &mut Vec<u8>, told: &Told, reads: bool, item: Item) -> Result<(), AllocError>
+fn put_found(line: &mut Vec<u8>, told: &ObjectEvents, reads: bool, item: Item) -> Result<(), AllocError>
     ensures { OnOk result (line.new.items ≡ line.old.items ++ item_behind told.now reads item) }
 {
     if !reads {
@@ -219,7 +219,7 @@ fn put_found(line: &mut Vec<u8>, told: &Told, reads: bool, item: Item) -> Result
 /// Puts last that an operation returned, and, if it is a read, that it found the item.
 pub(crate) fn put_had(
     line: &mut Vec<u8>,
-    told: &Told,
+    told: &ObjectEvents,
     at: usize,
     item: Item,
 ) -> Result<(), AllocError>

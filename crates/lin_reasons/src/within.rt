@@ -7,46 +7,46 @@ ghost use Rattle.lin_reasons.specs.Reasons.{ArePut};
 ghost use Rattle.lin_reasons.specs.Sides.{named_sides};
 ghost use Rattle.lin_reasons.specs.Within.{AreWithin, IsWithinTold, span_text, within_text, within_why};
 
-use crate::groups::{Calls, Group};
+use crate::groups::{CallGroup, Group};
 use crate::listing::last_first;
 use crate::locks::put_past;
 use crate::series::put_how_often;
 use crate::sides::{Sides, name_sides, put_sides};
-use crate::told::{Told, put_spot_at};
-use lin_certificates::{Answers, Calls as Sort, Which};
+use crate::told::{ObjectEvents, put_spot_at};
+use lin_certificates::{Answers, CallGroup as ReadSort, Which};
 use lin_events::Name;
 use std::alloc::{AllocError, Global};
 
 /// Acquires between the places, and releases that may have been there or failed then.
-fn acquired_within(told: &Told, places: (usize, usize), alloc: Global) -> Result<Sides, AllocError>
+fn acquired_within(told: &ObjectEvents, places: (usize, usize), alloc: Global) -> Result<Sides, AllocError>
     requires { IsNextTable told.now.events.now told.now.ends.now }
     ensures { IfOk result (λ sides. AreWithin told.now.events.now Sorted.Acquires Sorted.Releases places.0 places.1 sides) }
 {
     let (from, to) = places;
-    let made = Which::ReturnedWithin(Answers::Called(Sort::Acquires), from, to);
-    let others = Which::CountsWithin(Sort::Releases, from, to);
+    let made = Which::ReturnedWithin(Answers::Called(ReadSort::Acquires), from, to);
+    let others = Which::CountsWithin(ReadSort::Releases, from, to);
     let done = last_first(told, &Group::Such(made), alloc)?;
     let may = last_first(told, &Group::Such(others), alloc)?;
-    let failed = last_first(told, &Group::FailsWithin(Calls::Releases, from, to), alloc)?;
+    let failed = last_first(told, &Group::FailsWithin(CallGroup::Releases, from, to), alloc)?;
     Ok(Sides { done, may, failed })
 }
 
 /// Releases between the places, and acquires that may have been there or failed then.
-fn released_within(told: &Told, places: (usize, usize), alloc: Global) -> Result<Sides, AllocError>
+fn released_within(told: &ObjectEvents, places: (usize, usize), alloc: Global) -> Result<Sides, AllocError>
     requires { IsNextTable told.now.events.now told.now.ends.now }
     ensures { IfOk result (λ sides. AreWithin told.now.events.now Sorted.Releases Sorted.Acquires places.0 places.1 sides) }
 {
     let (from, to) = places;
-    let made = Which::ReturnedWithin(Answers::Called(Sort::Releases), from, to);
-    let others = Which::CountsWithin(Sort::Acquires, from, to);
+    let made = Which::ReturnedWithin(Answers::Called(ReadSort::Releases), from, to);
+    let others = Which::CountsWithin(ReadSort::Acquires, from, to);
     let done = last_first(told, &Group::Such(made), alloc)?;
     let may = last_first(told, &Group::Such(others), alloc)?;
-    let failed = last_first(told, &Group::FailsWithin(Calls::Acquires, from, to), alloc)?;
+    let failed = last_first(told, &Group::FailsWithin(CallGroup::Acquires, from, to), alloc)?;
     Ok(Sides { done, may, failed })
 }
 
 /// Puts last from which event up to which.
-fn put_span(text: &mut Vec<u8>, told: &Told, places: (usize, usize)) -> Result<(), AllocError>
+fn put_span(text: &mut Vec<u8>, told: &ObjectEvents, places: (usize, usize)) -> Result<(), AllocError>
     ensures { OnOk result (text.new.items ≡ text.old.items ++ span_text told.now places.0 places.1) }
 {
     text.extend_from_slice(b" from ")?;
@@ -58,7 +58,7 @@ fn put_span(text: &mut Vec<u8>, told: &Told, places: (usize, usize)) -> Result<(
 /// Puts a line last of how often the one call was made between the places, and how often the other can have been.
 fn put_within_why(
     text: &mut Vec<u8>,
-    told: &Told,
+    told: &ObjectEvents,
     words: (Name, Name),
     places: (usize, usize),
     done: &[usize],
@@ -82,7 +82,7 @@ fn put_within_why(
 /// Puts the lines last of how often the one call was made between the places, and how often the other can have been.
 fn put_within_lines(
     text: &mut Vec<u8>,
-    told: &Told,
+    told: &ObjectEvents,
     words: (Name, Name),
     places: (usize, usize),
     sides: &Sides,
@@ -104,7 +104,7 @@ fn put_within_lines(
 fn put_acquired_within(
     text: &mut Vec<u8>,
     named: &mut Vec<usize>,
-    told: &Told,
+    told: &ObjectEvents,
     places: (usize, usize),
     alloc: Global,
 ) -> Result<(), AllocError>
@@ -121,7 +121,7 @@ fn put_acquired_within(
 fn put_released_within(
     text: &mut Vec<u8>,
     named: &mut Vec<usize>,
-    told: &Told,
+    told: &ObjectEvents,
     places: (usize, usize),
     alloc: Global,
 ) -> Result<(), AllocError>
@@ -138,8 +138,8 @@ fn put_released_within(
 pub(crate) fn put_within(
     text: &mut Vec<u8>,
     named: &mut Vec<usize>,
-    told: &Told,
-    calls: Sort,
+    told: &ObjectEvents,
+    calls: ReadSort,
     places: (usize, usize),
     alloc: Global,
 ) -> Result<(), AllocError>
@@ -147,8 +147,8 @@ pub(crate) fn put_within(
     ensures { OnOk result (ArePut (IsWithinTold told.now calls places.0 places.1) text.old.items text.new.items named.old.items named.new.items) }
 {
     match calls {
-        Sort::Acquires => put_acquired_within(text, named, told, places, alloc),
-        Sort::Releases => put_released_within(text, named, told, places, alloc),
+        ReadSort::Acquires => put_acquired_within(text, named, told, places, alloc),
+        ReadSort::Releases => put_released_within(text, named, told, places, alloc),
         _ => Ok(()),
     }
 }

@@ -9,7 +9,7 @@ ghost use Rattle.lin_recorder.specs.declared.recorder.Recorder.{Recorder as Reco
 use crate::recorder::{Intake, Ordered, Recorder};
 use lin_answers::Verdict;
 use lin_events::OutOfMemory;
-use lin_handles::Parts;
+use lin_handles::BoxParts;
 use lin_texts::Settings;
 use std::alloc::Global;
 use std::marker::Model;
@@ -37,24 +37,24 @@ impl Handle {
         }
     }
 
-    fn of_parts(parts: Parts<Recorder, Global>) -> Handle
+    fn of_parts(parts: BoxParts<Recorder, Global>) -> Handle
         ensures { result.value ≡ Some parts.value }
     {
-        let Parts { ptr, alloc } = parts;
+        let BoxParts { ptr, alloc } = parts;
         Handle {
             at: ptr as *mut u8,
             alloc,
         }
     }
 
-    fn into_parts(self) -> Option<Parts<Recorder, Global>>
+    fn into_parts(self) -> Option<BoxParts<Recorder, Global>>
         ensures { option_map (λ b. b.value) result ≡ self.value }
     {
         let Handle { at, alloc } = self;
         if at.is_null() {
             None
         } else {
-            Some(Parts {
+            Some(BoxParts {
                 ptr: at as *mut Recorder,
                 alloc,
             })
@@ -64,7 +64,7 @@ impl Handle {
     fn of(value: Box<Recorder, Global>) -> Handle
         ensures { result.value ≡ Some value.value }
     {
-        Handle::of_parts(Parts::of(value))
+        Handle::of_parts(BoxParts::of(value))
     }
 
     fn into_box(self) -> Option<Box<Recorder, Global>>

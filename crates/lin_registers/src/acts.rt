@@ -110,14 +110,14 @@ pub struct Waiting {
 
 /// A place for each value, 0 where none was put.
 #[derive(Drop)]
-struct Places {
+struct ValuePlaces {
     nil: usize,
     items: HashMap<Item, usize>,
 }
 
-impl Places {
-    fn new(alloc: Global) -> Places {
-        Places {
+impl ValuePlaces {
+    fn new(alloc: Global) -> ValuePlaces {
+        ValuePlaces {
             nil: 0,
             items: HashMap::new(alloc),
         }
@@ -294,8 +294,8 @@ impl Acts {
 
     /// Notes where operations are needed no longer, and where what they need was left. Those that never returned and aren't needed go.
     pub fn look_ahead(&mut self, alloc: Global) -> Result<(), OutOfMemory> {
-        let mut left = Places::new(alloc);
-        let mut needed = Places::new(alloc);
+        let mut left = ValuePlaces::new(alloc);
+        let mut needed = ValuePlaces::new(alloc);
         for at in 0..self.moments.len() {
             self.note_return(at, &left, &mut needed)?;
             if let Some(value) = self.act(at).and_then(Act::left) {
@@ -313,8 +313,8 @@ impl Acts {
     fn note_return(
         &mut self,
         at: usize,
-        left: &Places,
-        needed: &mut Places,
+        left: &ValuePlaces,
+        needed: &mut ValuePlaces,
     ) -> Result<(), OutOfMemory> {
         let Some(begin) = self.begin(at) else {
             return Ok(());
@@ -332,7 +332,7 @@ impl Acts {
     }
 
     /// What is needed of a compare-and-set that never returned, is needed of what it found.
-    fn pass_on(&self, needed: &mut Places) -> Result<(), OutOfMemory> {
+    fn pass_on(&self, needed: &mut ValuePlaces) -> Result<(), OutOfMemory> {
         for at in (0..self.moments.len()).rev() {
             if !self.has_returned(at)
                 && let Some(Act::Cas(from, to)) = self.act(at)
@@ -345,7 +345,7 @@ impl Acts {
     }
 
     /// Notes until where an operation may be needed that was invoked there and never returned.
-    fn note_need(&mut self, at: usize, needed: &Places) {
+    fn note_need(&mut self, at: usize, needed: &ValuePlaces) {
         if self.has_returned(at) {
             return;
         }

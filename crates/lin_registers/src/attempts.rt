@@ -5,10 +5,10 @@ ghost use Rattle.std.specs.Prelude.{◌≡◌, ◌≤◌};
 ghost use Rattle.lin_events.specs.Meters.{ticked};
 
 use crate::acts::{Act, Acts, Waiting};
-use crate::drafts::{Draft, Gap, Spot, Step, count_as_wide, widest};
-use crate::lines::Line;
+use crate::drafts::{Draft, Gap, DraftSpot, DraftStep, count_as_wide, widest};
+use crate::lines::LinkedLine;
 use crate::paths::paths;
-use crate::pool::{Offer, Open, Pool, has_operation};
+use crate::pool::{Offer, OpenReturn, ReturnPool, has_operation};
 use crate::zones::register_failure;
 use lin_events::{Event, Meter, OutOfMemory, Val};
 use lin_orders::Placed;
@@ -44,8 +44,8 @@ struct Attempt<'a> {
     acts: &'a Acts,
     /// How many beginnings are kept.
     width: usize,
-    pool: Pool,
-    steps: Vec<Step>,
+    pool: ReturnPool,
+    steps: Vec<DraftStep>,
     /// Orders that were given up: others are made in their memory.
     spare: Vec<Draft>,
     /// How often it looked whether one order serves for another.
@@ -56,7 +56,7 @@ struct Attempt<'a> {
 
 /// Where updates can be put in an order.
 #[derive(Clone, Copy)]
-struct Place {
+struct Slot {
     /// Before the update of this gap, or behind all others.
     gap: Option<usize>,
     held: Val,
@@ -68,8 +68,8 @@ struct Place {
 }
 
 /// The place in the gap.
-fn place_in(draft: &Draft, at: usize, gap: &Gap) -> Place {
-    Place {
+fn place_in(draft: &Draft, at: usize, gap: &Gap) -> Slot {
+    Slot {
         gap: Some(at),
         held: gap.held,
         until: gap.until,
@@ -85,7 +85,7 @@ impl<'a> Attempt<'a> {
             alloc,
             acts,
             width,
-            pool: Pool::new(alloc),
+            pool: ReturnPool::new(alloc),
             steps: Vec::new(alloc),
             spare: Vec::new(alloc),
             looks: 0,
@@ -146,7 +146,7 @@ impl<'a> Attempt<'a> {
         operation: usize,
         act: Act,
     ) -> Result<(), OutOfMemory> {
-        let open = Open {
+        let open = OpenReturn {
             operation,
             act,
             last: self.acts.last(operation),
@@ -163,10 +163,10 @@ impl<'a> Attempt<'a> {
     }
 
     /// Places the open operation where it finds what the register holds.
-    fn read_at_once(&mut self, drafts: &mut Vec<Draft>, open: &Open) -> Result<(), OutOfMemory> {
+    fn read_at_once(&mut self, drafts: &mut Vec<Draft>, open: &OpenReturn) -> Result<(), OutOfMemory> {
         for draft in drafts.iter_mut() {
             if open.act == Act::Read(draft.held) && !draft.has(open) {
-                self.step(draft, open.operation, Spot::Behind(draft.last))?;
+                self.step(draft, open.operation, DraftSpot::Behind(draft.last))?;
                 draft.note(open.operation, open.act)?;
             }
         }
@@ -174,14 +174,14 @@ impl<'a> Attempt<'a> {
     }
 
     /// Puts the operation in the order, unless there are more steps than can be named.
-    fn step(&mut self, draft: &mut Draft, operation: usize, spot: Spot) -> Result<(), OutOfMemory> {
+    fn step(&mut self, draft: &mut Draft, operation: usize, spot: DraftSpot) -> Result<(), OutOfMemory> {
         let (Ok(name), Ok(step)) = (
             u32::try_from(operation),
             u32::try_from(self.steps.len().saturating_add(1)),
         ) else {
             return Ok(());
         };
-        self.steps.push(Step {
+        self.steps.push(DraftStep {
             parent: draft.step,
             operation: name,
             spot,
@@ -205,7 +205,7 @@ impl<'a> Attempt<'a> {
                 && !draft.has(open)
             {
                 let open = *open;
-                self.step(draft, open.operation, Spot::Behind(update))?;
+                self.step(draft, open.operation, DraftSpot::Behind(update))?;
                 draft.note(open.operation, open.act)?;
             }
         }
@@ -222,7 +222,7 @@ impl<'a> Attempt<'a> {
         })?;
         draft.held = value;
         draft.last = offer.operation;
-        self.step(draft, offer.operation, Spot::Last)?;
+        self.step(draft, offer.operation, DraftSpot::Last)?;
         self.tell(draft, value, offer.operation, usize::MAX)
     }
 
@@ -246,7 +246,7 @@ impl<'a> Attempt<'a> {
         if let Some(old) = draft.gaps.get_mut(at) {
             old.held = value;
         }
-        self.step(draft, offer.operation, Spot::Before(gap.next))?;
+        self.step(draft, offer.operation, DraftSpot::Before(gap.next))?;
         self.tell(draft, value, offer.operation, gap.until)
     }
 
@@ -254,7 +254,7 @@ impl<'a> Attempt<'a> {
     fn put_all(
         &mut self,
         draft: &mut Draft,
-        place: &Place,
+        place: &Slot,
         offers: &[Offer],
     ) -> Result<(), OutOfMemory> {
         for offer in offers {
@@ -274,7 +274,7 @@ impl<'a> Attempt<'a> {
     fn make(
         &mut self,
         draft: &Draft,
-        place: &Place,
+        place: &Slot,
         first: &[Offer],
         then: &[Offer],
         found: &mut Vec<Draft>,
@@ -290,7 +290,7 @@ impl<'a> Attempt<'a> {
     fn make_back(
         &mut self,
         draft: &Draft,
-        place: &Place,
+        place: &Slot,
         offers: &[Offer],
         found: &mut Vec<Draft>,
     ) -> Result<(), OutOfMemory> {
@@ -316,7 +316,7 @@ impl<'a> Attempt<'a> {
     fn follow(
         &mut self,
         draft: &Draft,
-        place: &Place,
+        place: &Slot,
         offers: &[Offer],
         found: &mut Vec<Draft>,
     ) -> Result<(), OutOfMemory> {
@@ -331,8 +331,8 @@ impl<'a> Attempt<'a> {
     fn reach_at(
         &mut self,
         draft: &Draft,
-        goal: &Open,
-        place: &Place,
+        goal: &OpenReturn,
+        place: &Slot,
         found: &mut Vec<Draft>,
     ) -> Result<(), OutOfMemory> {
         let update = goal.offer();
@@ -357,10 +357,10 @@ impl<'a> Attempt<'a> {
     fn reach(
         &mut self,
         draft: &Draft,
-        goal: &Open,
+        goal: &OpenReturn,
         found: &mut Vec<Draft>,
     ) -> Result<(), OutOfMemory> {
-        let end = Place {
+        let end = Slot {
             gap: None,
             held: draft.held,
             until: usize::MAX,
@@ -484,7 +484,7 @@ impl<'a> Attempt<'a> {
             chain.push(*step)?;
             at = step.parent;
         }
-        let mut line = Line::new(self.alloc, self.acts.len())?;
+        let mut line = LinkedLine::new(self.alloc, self.acts.len())?;
         while let Some(step) = chain.pop() {
             if line.put(&step).is_none() {
                 return Ok(None);
@@ -495,7 +495,7 @@ impl<'a> Attempt<'a> {
 }
 
 /// Whether the register holds the value where the open update can be put.
-fn is_held(draft: &Draft, open: &Open, value: Val) -> bool {
+fn is_held(draft: &Draft, open: &OpenReturn, value: Val) -> bool {
     if open.act.is_read() {
         return false;
     }

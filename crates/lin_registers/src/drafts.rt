@@ -1,6 +1,6 @@
 //! Beginnings of orders of the operations of a register.
 use crate::acts::Act;
-use crate::pool::{Offer, Open};
+use crate::pool::{Offer, OpenReturn};
 use lin_events::{OutOfMemory, Val};
 use std::alloc::Global;
 
@@ -19,7 +19,7 @@ pub struct Gap {
 
 /// Where a step puts an operation in an order.
 #[derive(Clone, Copy, Debug, PartialEq, Eq)]
-pub enum Spot {
+pub enum DraftSpot {
     /// Behind all others.
     Last,
     /// Before this update.
@@ -30,11 +30,11 @@ pub enum Spot {
 
 /// One operation more in an order.
 #[derive(Clone, Copy, Debug, PartialEq, Eq)]
-pub struct Step {
+pub struct DraftStep {
     /// The step before it, and one more; 0 where there is none.
     pub parent: u32,
     pub operation: u32,
-    pub spot: Spot,
+    pub spot: DraftSpot,
 }
 
 /// How many of the updates stand in an order that did the same and never returned: the first ones.
@@ -104,7 +104,7 @@ impl Draft {
     }
 
     /// Whether the open operation, which returns, stands in it.
-    pub fn has(&self, open: &Open) -> bool {
+    pub fn has(&self, open: &OpenReturn) -> bool {
         match open.act {
             Act::Read(_) => self.reads.contains(&open.operation),
             Act::Write(_) => self.writes.contains(&open.operation),
@@ -153,7 +153,7 @@ impl Draft {
     }
 
     /// The operation is open no longer.
-    pub fn close(&mut self, open: &Open) {
+    pub fn close(&mut self, open: &OpenReturn) {
         let operation = open.operation;
         match open.act {
             Act::Read(_) => self.reads.retain(|other| *other != operation),

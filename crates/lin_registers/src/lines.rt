@@ -1,11 +1,11 @@
 //! Operations in a line, into which others are put.
-use crate::drafts::{Spot, Step};
+use crate::drafts::{DraftSpot, DraftStep};
 use lin_events::OutOfMemory;
 use std::alloc::Global;
 
 /// Operations in a line, each with the next one and the one before. The end is the place behind the last one and before the first.
 #[derive(Drop)]
-pub struct Line {
+pub struct LinkedLine {
     next: Vec<usize>,
     before: Vec<usize>,
     /// For each update the last read that was put behind it, or the update itself.
@@ -22,10 +22,10 @@ fn numbers(alloc: Global, last: usize) -> Result<Vec<usize>, OutOfMemory> {
     Ok(numbers)
 }
 
-impl Line {
+impl LinkedLine {
     /// No operation yet. They are named by places below the end.
-    pub fn new(alloc: Global, end: usize) -> Result<Line, OutOfMemory> {
-        Ok(Line {
+    pub fn new(alloc: Global, end: usize) -> Result<LinkedLine, OutOfMemory> {
+        Ok(LinkedLine {
             next: numbers(alloc, end)?,
             before: numbers(alloc, end)?,
             tails: numbers(alloc, end)?,
@@ -44,18 +44,18 @@ impl Line {
     }
 
     /// Puts the operation of the step in its spot. None where something isn't named.
-    pub fn put(&mut self, step: &Step) -> Option<()> {
+    pub fn put(&mut self, step: &DraftStep) -> Option<()> {
         let operation = step.operation as usize;
         match step.spot {
-            Spot::Last => {
+            DraftSpot::Last => {
                 let last = *self.before.get(self.end)?;
                 self.put_behind(last, operation)
             }
-            Spot::Before(write) => {
+            DraftSpot::Before(write) => {
                 let earlier = *self.before.get(write)?;
                 self.put_behind(earlier, operation)
             }
-            Spot::Behind(update) => {
+            DraftSpot::Behind(update) => {
                 let tail = *self.tails.get(update)?;
                 self.put_behind(tail, operation)?;
                 *self.tails.get_mut(update)? = operation;

@@ -6,7 +6,7 @@ use std::alloc::Global;
 
 /// An operation that is open and returns.
 #[derive(Clone, Copy, Debug, PartialEq, Eq)]
-pub struct Open {
+pub struct OpenReturn {
     pub operation: usize,
     pub act: Act,
     /// Where it returns.
@@ -37,9 +37,9 @@ pub struct Offer {
 
 /// Operations that are open.
 #[derive(Drop)]
-pub struct Pool {
+pub struct ReturnPool {
     /// Those that return, the earliest first.
-    pub open: Vec<Open>,
+    pub open: Vec<OpenReturn>,
     classes: Vec<Class>,
     /// How many classes there were.
     names: usize,
@@ -77,7 +77,7 @@ fn is_sooner(offer: &Offer, other: &Offer) -> bool {
     }
 }
 
-impl Open {
+impl OpenReturn {
     /// It on offer, if it is an update.
     pub fn offer(&self) -> Option<Offer> {
         if self.act.is_read() {
@@ -99,9 +99,9 @@ impl Class {
     }
 }
 
-impl Pool {
-    pub fn new(alloc: Global) -> Pool {
-        Pool {
+impl ReturnPool {
+    pub fn new(alloc: Global) -> ReturnPool {
+        ReturnPool {
             open: Vec::new(alloc),
             classes: Vec::new(alloc),
             names: 0,
@@ -109,7 +109,7 @@ impl Pool {
     }
 
     /// An update was invoked that never returns. Classes that aren't needed any longer go.
-    pub fn crash(&mut self, alloc: Global, update: Open, now: usize) -> Result<(), OutOfMemory> {
+    pub fn crash(&mut self, alloc: Global, update: OpenReturn, now: usize) -> Result<(), OutOfMemory> {
         self.classes.retain(|class| class.last > now);
         for class in self.classes.iter_mut() {
             if class.act == update.act {
@@ -130,7 +130,7 @@ impl Pool {
     }
 
     /// The open operation of this name.
-    pub fn named(&self, operation: usize) -> Option<Open> {
+    pub fn named(&self, operation: usize) -> Option<OpenReturn> {
         for open in &self.open {
             if open.operation == operation {
                 return Some(*open);

@@ -40,8 +40,8 @@ use Rattle.lin_report.specs.declared.explaining.Question.{Question}
 use Rattle.lin_report.specs.declared.failing.Failing.{Failing}
 use Rattle.lin_report.specs.declared.findings.Finding.{Finding}
 use Rattle.lin_report.specs.declared.findings.Findings.{Findings}
-use Rattle.lin_report.specs.declared.formats.Format.{Format}
-use Rattle.lin_report.specs.declared.formats.Format.TheVariants.{Text, Json, Rest}
+use Rattle.lin_report.specs.declared.formats.ReportFormat.{ReportFormat}
+use Rattle.lin_report.specs.declared.formats.ReportFormat.TheVariants.{Text, Json, Rest}
 
 -- without the byte that ends the last line
 abbrev pub without_end : List ℕ → List ℕ
@@ -96,13 +96,13 @@ module _ (names : List (List ℕ)) where
 
   -- An explanation: the answer's line, those that explain it, and those of an object that fails beside it; or one line of JSON, which has this text
   -- as well, or what follows the brace that opens it.
-  abbrev pub explanation_text : Format → ℕ → Verdict → List ℕ → Parts → Option Beside → List ℕ
+  abbrev pub explanation_text : ReportFormat → ℕ → Verdict → List ℕ → Parts → Option Beside → List ℕ
   explanation_text Text events verdict lines parts beside = whole_text verdict lines beside
   explanation_text Json events verdict lines parts beside = json_line events verdict lines parts beside
   explanation_text Rest events verdict lines parts beside = drop 1 (json_line events verdict lines parts beside)
 
   -- an answer that is right, with what explains it, and what is told beside it
-  pub record IsExplanation (format : Format) (now : Present) (asked : Asked) (places : Option (List Place)) (text : List ℕ) (status : Status) : Type 0 where
+  pub record IsExplanation (format : ReportFormat) (now : Present) (asked : Asked) (places : Option (List Place)) (text : List ℕ) (status : Status) : Type 0 where
     pub answer : Answer
     pub lines : List ℕ
     pub parts : Parts
@@ -125,14 +125,14 @@ is_yes (No n) = false
 is_yes (Undecided at) = false
 
 -- what stands between two explanations: an empty line, but nothing between lines of JSON, and nothing in front of the first
-abbrev pub between : Format → List ℕ → List ℕ
+abbrev pub between : ReportFormat → List ℕ → List ℕ
 between Text [] = []
 between Text (c ∷ text) = codes "\n"
 between Json text = []
 between Rest text = []
 
 -- of objects of which this is found, the explanations of those that aren't a yes, each as where its key is asked about
-pub data AreExplained (names : List (List ℕ)) (format : Format) (now : Present) (asked : Asked) (places : Option (List Place)) : List Finding → List ℕ → Type 0 where
+pub data AreExplained (names : List (List ℕ)) (format : ReportFormat) (now : Present) (asked : Asked) (places : Option (List Place)) : List Finding → List ℕ → Type 0 where
   nothing : AreExplained names format now asked places [] []
   one_yes : {found : List Finding} {text : List ℕ} → AreExplained names format now asked places found text → (f : Finding) → is_yes f.verdict ≡ true
       → AreExplained names format now asked places (found ++ f ∷ []) text
@@ -141,7 +141,7 @@ pub data AreExplained (names : List (List ℕ)) (format : Format) (now : Present
       → AreExplained names format now asked places (found ++ f ∷ []) ((text ++ between format text) ++ more)
 
 -- of each object that isn't a yes, with the status of the whole; or, where there is none such, the explanation of the whole
-pub record IsAllExplained (names : List (List ℕ)) (format : Format) (now : Present) (asked : Asked) (places : Option (List Place)) (text : List ℕ) (status : Status) : Type 0 where
+pub record IsAllExplained (names : List (List ℕ)) (format : ReportFormat) (now : Present) (asked : Asked) (places : Option (List Place)) (text : List ℕ) (status : Status) : Type 0 where
   pub findings : Findings
   pub each : List ℕ
   pub has_found : HasFound names now findings
@@ -156,12 +156,12 @@ is_for_all true None = true
 is_for_all true (Some key) = false
 
 -- of each object, or as the key says
-abbrev pub IsToldBy : Bool → List (List ℕ) → Format → Present → Asked → Option (List Place) → List ℕ → Status → Type 0
+abbrev pub IsToldBy : Bool → List (List ℕ) → ReportFormat → Present → Asked → Option (List Place) → List ℕ → Status → Type 0
 IsToldBy true names format now asked places text status = IsAllExplained names format now asked places text status
 IsToldBy false names format now asked places text status = IsExplanation names format now asked places text status
 
 -- as it is asked
-abbrev pub IsToldFor : List (List ℕ) → Bool → Format → Present → Asked → Option (List Place) → List ℕ → Status → Type 0
+abbrev pub IsToldFor : List (List ℕ) → Bool → ReportFormat → Present → Asked → Option (List Place) → List ℕ → Status → Type 0
 IsToldFor names all_keys format now asked places text status = IsToldBy (is_for_all all_keys asked.key) names format now asked places text status
 
 -- the line that refuses a file, the one that tells where and why, and the lines that hint at what to do
@@ -173,7 +173,7 @@ refused_line marked refusal hint =
     refusal_json ends.Refused (refusal_text refusal) (place_in marked refusal) (without_end (refusal_lines marked refusal hint)) ++ codes "\n"
 
 -- what is told of a file that is refused
-abbrev pub refused_told : Format → Marked → Refusal → List ℕ → List ℕ
+abbrev pub refused_told : ReportFormat → Marked → Refusal → List ℕ → List ℕ
 refused_told Text marked refusal hint = refusal_lines marked refusal hint
 refused_told Json marked refusal hint = refused_line marked refusal hint
 refused_told Rest marked refusal hint = drop 1 (refused_line marked refusal hint)

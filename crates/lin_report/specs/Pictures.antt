@@ -19,7 +19,7 @@ use Rattle.lin_draw.specs.Pictures.{IsSvg}
 use Rattle.lin_explain.specs.Explained.{scope_of}
 use Rattle.lin_report.specs.Explanations.{IsKey}
 use Rattle.lin_report.specs.Reports.{IsPrintRun, answer_status, answer_text, is_ill_formed, opened, refusal_line}
-use Rattle.lin_report.specs.declared.formats.Format.TheVariants.{Text}
+use Rattle.lin_report.specs.declared.formats.ReportFormat.TheVariants.{Text}
 
 -- an answer that is right, for the object of the key or the whole; of a history that isn't well-formed its line is all that is printed
 pub record IsDrawing (now : Present) (key : Option Item) (text : List ℕ) (status : Status) : Type 0 where

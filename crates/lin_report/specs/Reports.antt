@@ -30,8 +30,8 @@ use Rattle.lin_texts.specs.declared.settings.Settings.{Settings}
 use Rattle.lin_report.specs.Failing.{failing_key}
 use Rattle.lin_report.specs.declared.findings.Finding.{Finding}
 use Rattle.lin_report.specs.declared.findings.Findings.{Findings}
-use Rattle.lin_report.specs.declared.formats.Format.{Format}
-use Rattle.lin_report.specs.declared.formats.Format.TheVariants.{Text, Json, Rest}
+use Rattle.lin_report.specs.declared.formats.ReportFormat.{ReportFormat}
+use Rattle.lin_report.specs.declared.formats.ReportFormat.TheVariants.{Text, Json, Rest}
 
 -- the text of an answer without its order
 abbrev pub answer_text : Verdict → List ℕ
@@ -89,7 +89,7 @@ module _ (names : List (List ℕ)) where
   json_report now keys found whole =
       checked_json names (failing_key whole found) (answer_status whole) (answer_text whole) (length now.history) (json_objects (kinds_in now) found) ++ codes "\n"
 
-  abbrev pub report_text : Format → Present → ℕ → List Finding → Verdict → List ℕ
+  abbrev pub report_text : ReportFormat → Present → ℕ → List Finding → Verdict → List ℕ
   report_text Text now keys found whole =
       counts_text (length now.history) keys ++ lines_text (kinds_in now) found ++ codes "whole: " ++ (answer_text whole ++ codes "\n")
   report_text Json now keys found whole = json_report now keys found whole
@@ -106,7 +106,7 @@ module _ (names : List (List ℕ)) where
   HasFound now f = (keys : List Item) × (f.keys ≡ length keys) × AreFound now keys f.objects.items f.whole
 
   -- what is right to report, and the status of a run that ends with it: what is found of the history, and of the whole
-  pub record IsReport (format : Format) (now : Present) (text : List ℕ) (status : Status) : Type 0 where
+  pub record IsReport (format : ReportFormat) (now : Present) (text : List ℕ) (status : Status) : Type 0 where
     pub keys : List Item
     pub found : List Finding
     pub whole : Verdict
@@ -119,14 +119,14 @@ abbrev pub opened : Settings → List Event → Present
 opened settings events = record { history = events; kinds = same_for_all settings.kind; budget = settings.budget }
 
 -- the line that refuses a file
-abbrev pub refusal_line : Format → Refusal → List ℕ
+abbrev pub refusal_line : ReportFormat → Refusal → List ℕ
 refusal_line Text refusal = refusal_text refusal ++ codes "\n"
 refusal_line Json refusal = answer_json ends.Refused (refusal_text refusal) ++ codes "\n"
 refusal_line Rest refusal = drop 1 (answer_json ends.Refused (refusal_text refusal) ++ codes "\n")
 
 -- What is right to print of the bytes of a file, with the status: why they are refused; or, where they are a whole history and no
 -- byte is left, a report of it. Words are told by the spellings by which they are read.
-abbrev pub IsRightReport : Settings → Format → List ℕ → Option (List ℕ) → List ℕ → Status → Type 0
+abbrev pub IsRightReport : Settings → ReportFormat → List ℕ → Option (List ℕ) → List ℕ → Status → Type 0
 IsRightReport settings format bytes left text status = (names : List (List ℕ)) × AreEachOnce names
     × (((refusal : Refusal) × AreRefusedFor settings.keyed names settings.at_least bytes refusal × StopsFor refusal left × (text ≡ refusal_line format refusal) × (status ≡ ends.Refused))
     ⊎ ((events : List Event) × IsEnough settings.keyed names settings.at_least bytes events × IsAtEnd left × IsReport names format (opened settings events) text status))
@@ -140,7 +140,7 @@ abbrev pub IsPrinted : Printing → Option (List ℕ) → Option (List ℕ) → 
 IsPrinted is_right old new text status =
     (bytes : List ℕ) × Consumes old new bytes × (length bytes ≤ 2 ^ 40) × is_right bytes new text status
 
-abbrev pub IsChecked : Settings → Format → Option (List ℕ) → Option (List ℕ) → List ℕ → Status → Type 0
+abbrev pub IsChecked : Settings → ReportFormat → Option (List ℕ) → Option (List ℕ) → List ℕ → Status → Type 0
 IsChecked settings format old new text status = IsPrinted (IsRightReport settings format) old new text status
 
 -- What a run reads and writes, and how it ends: with what is right to print written, and its status; or early. After a fault of
@@ -154,5 +154,5 @@ IsPrintRun is_right old new before after (Err TooMuch) = Keeps before after × I
 IsPrintRun is_right old new before after (Err WriteFailed) =
     (text : List ℕ) × (status : Status) × IsPrinted is_right old new text status × ((n : ℕ) × Appends before after (take n text))
 
-abbrev pub IsCheckRun : Settings → Format → Option (List ℕ) → Option (List ℕ) → Option (List ℕ) → Option (List ℕ) → Result Status RunFault → Type 0
+abbrev pub IsCheckRun : Settings → ReportFormat → Option (List ℕ) → Option (List ℕ) → Option (List ℕ) → Option (List ℕ) → Result Status RunFault → Type 0
 IsCheckRun settings format old new before after result = IsPrintRun (IsRightReport settings format) old new before after result

@@ -32,7 +32,7 @@ use Rattle.lin_formats.specs.declared.verdicts.Refusal.{Refusal}
 use Rattle.lin_formats.specs.declared.verdicts.Refusal.TheVariants as refusal
 use Rattle.lin_texts.specs.declared.status.Status.{Status}
 use Rattle.lin_texts.specs.declared.status.Status.TheVariants as status_of
-use Rattle.lin_report.specs.declared.formats.Format.TheVariants.{Text}
+use Rattle.lin_report.specs.declared.formats.ReportFormat.TheVariants.{Text}
 use Rattle.lin_report.specs.declared.commands.Command.{Command}
 use Rattle.lin_report.specs.declared.commands.Command.TheVariants.{Edit, Skipped, Ask, Order, Report, Pull, Refute, Explain, Work}
 use Rattle.lin_report.specs.declared.commands.CommandFault.{CommandFault}

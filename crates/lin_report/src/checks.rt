@@ -7,7 +7,7 @@ ghost use Rattle.lin_formats.specs.Inputs.{limit};
 ghost use Rattle.lin_report.specs.Reports.{IsChecked, IsCheckRun, IsReport, opened, refusal_line};
 ghost use Rattle.lin_formats.specs.Verdicts.{is_write_failed, IsReadTooFar};
 
-use crate::formats::{Format, take_first_away};
+use crate::formats::{ReportFormat, take_first_away};
 use crate::json_reports::json_refusal;
 use crate::reports::report;
 use crate::sessions::{names_are_apart, session_of};
@@ -30,7 +30,7 @@ pub struct Answered {
 fn report_of(
     alloc: Global,
     settings: Settings,
-    format: Format,
+    format: ReportFormat,
     names: &Names,
     events: Vec<Event>,
 ) -> Result<Answered, OutOfMemory>
@@ -53,13 +53,13 @@ fn text_refusal(alloc: Global, refusal: Refusal) -> Result<Vec<u8>, AllocError>
 }
 
 /// What is printed of a file that is refused.
-pub fn refused(alloc: Global, format: Format, refusal: Refusal) -> Result<Answered, AllocError>
+pub fn refused(alloc: Global, format: ReportFormat, refusal: Refusal) -> Result<Answered, AllocError>
     ensures { IfOk result (λ answered. (answered.text.items ≡ refusal_line format refusal) × (answered.status ≡ Status.Refused)) }
 {
     let text = match format {
-        Format::Text => text_refusal(alloc, refusal)?,
-        Format::Json => json_refusal(alloc, refusal)?,
-        Format::Rest => {
+        ReportFormat::Text => text_refusal(alloc, refusal)?,
+        ReportFormat::Json => json_refusal(alloc, refusal)?,
+        ReportFormat::Rest => {
             let mut line = json_refusal(alloc, refusal)?;
             take_first_away(&mut line);
             line
@@ -75,7 +75,7 @@ pub fn refused(alloc: Global, format: Format, refusal: Refusal) -> Result<Answer
 fn find<R: Read>(
     alloc: Global,
     settings: Settings,
-    format: Format,
+    format: ReportFormat,
     file: &mut Counted<R>,
 ) -> Result<Answered, RunFault>
     requires budget { (1 ≤ settings.budget) × (settings.budget ≤ 1000000) }
@@ -108,7 +108,7 @@ fn find<R: Read>(
 pub fn check<R: Read, W: Write>(
     alloc: Global,
     settings: Settings,
-    format: Format,
+    format: ReportFormat,
     file: &mut Counted<R>,
     out: &mut Counted<W>,
 ) -> Result<Status, RunFault>

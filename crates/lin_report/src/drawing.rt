@@ -13,7 +13,7 @@ ghost use Rattle.lin_explain.specs.Explained.{scope_of as scope_for};
 use crate::answers::{is_ill_formed, status_of, told_words, verdict_of};
 use crate::checks::{Answered, refused};
 use crate::explaining::{item_of, scope_of, told_of};
-use crate::formats::Format;
+use crate::formats::ReportFormat;
 use crate::sessions::{names_are_apart, session_of};
 use lin_answers::{Answer, Scope};
 use lin_draw::{Orders, Wanted, picture_with_places};
@@ -143,7 +143,7 @@ fn find<R: Read>(
             let places = &placed.places;
             Ok(drawing_of(alloc, settings, key, last, &names, events, places)?)
         }
-        History::Refused(refusal) => Ok(refused(alloc, Format::Text, refusal)?),
+        History::Refused(refusal) => Ok(refused(alloc, ReportFormat::Text, refusal)?),
     }
 }
 

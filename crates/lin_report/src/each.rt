@@ -9,7 +9,7 @@ use crate::answers::status_of;
 use crate::checks::Answered;
 use crate::explaining::{Question, explained, explanation};
 use crate::findings::{Finding, find};
-use crate::formats::Format;
+use crate::formats::ReportFormat;
 use crate::sessions::session_of;
 use lin_answers::{Scope, Verdict};
 use lin_events::{Event, Item, OutOfMemory};
@@ -29,11 +29,11 @@ fn is_yes(verdict: Verdict) -> bool
 }
 
 /// Puts last what stands between two explanations, where one stands there already.
-fn put_between(text: &mut Vec<u8>, format: Format) -> Result<(), AllocError>
+fn put_between(text: &mut Vec<u8>, format: ReportFormat) -> Result<(), AllocError>
     ensures { OnOk result (text.new.items ≡ text.old.items ++ between_for format text.old.items) }
 {
     match format {
-        Format::Text if !text.is_empty() => {
+        ReportFormat::Text if !text.is_empty() => {
             text.push(b'\n')?;
             Ok(())
         }
@@ -47,7 +47,7 @@ fn put_one(
     text: &mut Vec<u8>,
     session: &mut Session,
     names: &Names,
-    question: (Format, Asked),
+    question: (ReportFormat, Asked),
     places: Option<&[Place]>,
     found: Finding,
 ) -> Result<(), OutOfMemory>
@@ -75,7 +75,7 @@ fn explained_each(
     alloc: Global,
     session: &mut Session,
     names: &Names,
-    question: (Format, Asked),
+    question: (ReportFormat, Asked),
     places: Option<&[Place]>,
     found: &[Finding],
 ) -> Result<Vec<u8>, OutOfMemory>
@@ -93,7 +93,7 @@ fn explained_each(
 fn explained_all(
     alloc: Global,
     settings: Settings,
-    format: Format,
+    format: ReportFormat,
     asked: Asked,
     names: &Names,
     events: Vec<Event>,

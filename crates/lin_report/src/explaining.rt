@@ -19,9 +19,9 @@ use crate::answers::{status_of, verdict_of};
 use crate::beside::{Beside, beside_of, whole_words};
 use crate::checks::Answered;
 use crate::each::told_for;
-use crate::formats::{Format, take_first_away};
+use crate::formats::{ReportFormat, take_first_away};
 use crate::json_explanations::{json_explanation, json_refused};
-use crate::replies::Reply;
+use crate::replies::WrittenReply;
 use crate::sessions::{names_are_apart, session_of};
 use lin_answers::{Answer, Scope, Verdict};
 use lin_events::{Event, Item, OutOfMemory};
@@ -31,7 +31,7 @@ use lin_formats::{
 };
 use lin_names::{Names, Said};
 use lin_places::Places;
-use lin_reading::{Placed, read_placed, refusal_lines};
+use lin_reading::{EventPlaces, read_placed, refusal_lines};
 use lin_session::Session;
 use lin_texts::Place;
 use std::alloc::{AllocError, Global};
@@ -47,7 +47,7 @@ pub struct Question<'a> {
     /// Whether a yes ends with its order.
     pub with_order: bool,
     /// How the explanation is printed.
-    pub format: Format,
+    pub format: ReportFormat,
 }
 
 /// The key that is said, if one is. A word gets a number if it has none.
@@ -85,7 +85,7 @@ fn key_of(scope: Scope) -> Option<Item>
 fn told_as(
     alloc: Global,
     names: &Names,
-    format: Format,
+    format: ReportFormat,
     events: usize,
     verdict: Verdict,
     told: &Explanation,
@@ -95,9 +95,9 @@ fn told_as(
         ≡ explanation_text names.now format events verdict told.now.lines.items told.now.parts (option_map (λ b. b.now) beside.entry)) }
 {
     match format {
-        Format::Text => whole_words(alloc, names, verdict, &told.lines, beside),
-        Format::Json => json_explanation(alloc, names, events, verdict, told, beside),
-        Format::Rest => {
+        ReportFormat::Text => whole_words(alloc, names, verdict, &told.lines, beside),
+        ReportFormat::Json => json_explanation(alloc, names, events, verdict, told, beside),
+        ReportFormat::Rest => {
             let mut line = json_explanation(alloc, names, events, verdict, told, beside)?;
             take_first_away(&mut line);
             Ok(line)
@@ -109,7 +109,7 @@ fn told_as(
 fn answered(
     alloc: Global,
     names: &Names,
-    format: Format,
+    format: ReportFormat,
     events: usize,
     answer: &Answer,
     told: &Explanation,
@@ -162,7 +162,7 @@ pub(crate) fn explanation(
     alloc: Global,
     session: &mut Session,
     names: &Names,
-    format: Format,
+    format: ReportFormat,
     scope: Scope,
     asked: Asked,
     places: Option<&[Place]>,
@@ -201,7 +201,7 @@ pub fn explain_reply(
     session: &mut Session,
     names: &Names,
     scope: Scope,
-) -> Result<Reply, OutOfMemory>
+) -> Result<WrittenReply, OutOfMemory>
     ensures reply { IfOk result (λ reply. IsCommandReply names.now keyed (command.Explain scope) session.old.present session.new.present reply.text.items reply.status) }
     ensures question { IsQuestion scope (13 * length session.old.present.history) session.old session.new }
 {
@@ -210,12 +210,12 @@ pub fn explain_reply(
         with_order: false,
         keyed,
     };
-    let answered = explanation(alloc, session, names, Format::Text, scope, asked, None)?;
+    let answered = explanation(alloc, session, names, ReportFormat::Text, scope, asked, None)?;
     let mut text = Vec::from_slice(alloc, b"explained ")?;
     put_number(&mut text, line_count(answered.text.as_slice()) as u64)?;
     text.push(b'\n')?;
     text.extend_from_slice(answered.text.as_slice())?;
-    Ok(Reply {
+    Ok(WrittenReply {
         text,
         status: Some(answered.status),
     })
@@ -244,7 +244,7 @@ fn explained_last(
 pub(crate) fn explained(
     alloc: Global,
     settings: Settings,
-    format: Format,
+    format: ReportFormat,
     asked: Asked,
     names: &Names,
     events: Vec<Event>,
@@ -265,7 +265,7 @@ pub(crate) fn explained(
 }
 
 /// The lines that are told of a file that is refused.
-fn refused_lines(alloc: Global, refusal: Refusal, placed: &Placed) -> Result<Vec<u8>, OutOfMemory>
+fn refused_lines(alloc: Global, refusal: Refusal, placed: &EventPlaces) -> Result<Vec<u8>, OutOfMemory>
     ensures { IfOk result (λ text. text.items ≡ lines_for placed.now.places refusal placed.now.hints.items) }
 {
     let lines = refusal_lines(alloc, refusal, placed)?;
@@ -278,17 +278,17 @@ fn refused_lines(alloc: Global, refusal: Refusal, placed: &Placed) -> Result<Vec
 /// What is told of a file that is refused.
 fn refused(
     alloc: Global,
-    format: Format,
+    format: ReportFormat,
     refusal: Refusal,
-    placed: &Placed,
+    placed: &EventPlaces,
 ) -> Result<Answered, OutOfMemory>
     ensures { IfOk result (λ answered. (answered.text.items ≡ refused_told format placed.now.places refusal placed.now.hints.items) × (answered.status ≡ Status.Refused)) }
 {
     let lines = refused_lines(alloc, refusal, placed)?;
     let text = match format {
-        Format::Text => lines,
-        Format::Json => json_refused(alloc, refusal, &placed.places, &lines)?,
-        Format::Rest => {
+        ReportFormat::Text => lines,
+        ReportFormat::Json => json_refused(alloc, refusal, &placed.places, &lines)?,
+        ReportFormat::Rest => {
             let mut line = json_refused(alloc, refusal, &placed.places, &lines)?;
             take_first_away(&mut line);
             line

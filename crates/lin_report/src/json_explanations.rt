@@ -9,7 +9,7 @@ ghost use Rattle.lin_report.specs.Explanations.{beside_json, beside_map, explana
 
 use crate::answers::{status_of, told_words, verdict_words};
 use crate::beside::{Beside, whole_words};
-use crate::formats::Format;
+use crate::formats::ReportFormat;
 use lin_answers::Verdict;
 use lin_explain::Explanation;
 use lin_formats::{Refusal, Status, refusal_words};
@@ -86,7 +86,7 @@ pub fn json_explanation(
     beside: Option<&Beside>,
 ) -> Result<Vec<u8>, AllocError>
     ensures { IfOk result (λ line. line.items
-        ≡ explanation_text names.now Format.Json events verdict told.now.lines.items told.now.parts (option_map (λ b. b.now) beside.entry)) }
+        ≡ explanation_text names.now ReportFormat.Json events verdict told.now.lines.items told.now.parts (option_map (λ b. b.now) beside.entry)) }
 {
     let answer = verdict_words(alloc, verdict)?;
     let text = whole_words(alloc, names, verdict, &told.lines, beside)?;

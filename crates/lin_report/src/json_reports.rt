@@ -10,7 +10,7 @@ ghost use Rattle.lin_report.specs.Reports.{answer_status, answer_text, json_obje
 use crate::answers::{status_of, verdict_words};
 use crate::failing::failing_key;
 use crate::findings::{Finding, Findings};
-use crate::formats::Format;
+use crate::formats::ReportFormat;
 use lin_answers::Verdict;
 use lin_events::Item;
 use lin_formats::{Refusal, Status, refusal_words};
@@ -102,7 +102,7 @@ pub fn put_json_report(
     session: &Session,
     found: &Findings,
 ) -> Result<(), AllocError>
-    ensures { OnOk result (text.new.items ≡ text.old.items ++ report_text names.now Format.Json session.now.present found.now.keys found.now.objects.items found.now.whole) }
+    ensures { OnOk result (text.new.items ≡ text.old.items ++ report_text names.now ReportFormat.Json session.now.present found.now.keys found.now.objects.items found.now.whole) }
 {
     let events = session.len();
     put_front(alloc, text, names, events, found.whole, &found.objects)?;

@@ -29,7 +29,7 @@ pub use checks::check;
 pub use commands::{Command, CommandFault, commands_are_unique, read_command};
 pub use drawing::draw;
 pub use explaining::{Question, explain};
-pub use formats::Format;
+pub use formats::ReportFormat;
 pub use laws::answers_agree;
 pub use lin_formats::{
     Counted, OrderFault, RunFault, Settings, Status, read_order, verdicts_are_unique, verify,

@@ -11,7 +11,7 @@ ghost use Rattle.lin_report.specs.Runs.{IsCommandReply, IsRefuteReply};
 
 use crate::answers::verdict_of;
 use crate::commands::Command;
-use crate::replies::{Reply, answered};
+use crate::replies::{WrittenReply, answered};
 use lin_answers::answers_are_verdicts;
 use lin_events::{Event, Item, OutOfMemory, beginnings_are_well_formed};
 use lin_formats::{Status, put_number};
@@ -61,7 +61,7 @@ fn checked(
     key: Item,
     prefix: usize,
     refutation: &Refutation,
-) -> Result<Option<Reply>, OutOfMemory>
+) -> Result<Option<WrittenReply>, OutOfMemory>
     requires well_formed { IsWellFormed (functions_of (kinds_in session.now.present)) session.now.present.history }
     requires within { prefix ≤ length session.now.present.history }
     requires before { IsLinearizableFor (kinds_in session.now.present) key (take (prefix - 1) session.now.present.history) }
@@ -75,14 +75,14 @@ fn checked(
     if !check_refutation(alloc, &events, session.kind_of(key), refutation)? {
         return Ok(None);
     }
-    Ok(Some(Reply {
+    Ok(Some(WrittenReply {
         text: refuted_line(alloc, prefix)?,
         status: Some(Status::No),
     }))
 }
 
 /// A refutation of the object, or its answer where that isn't a no.
-pub fn refute(alloc: Global, session: &mut Session, key: Item) -> Result<Reply, OutOfMemory>
+pub fn refute(alloc: Global, session: &mut Session, key: Item) -> Result<WrittenReply, OutOfMemory>
     ensures { IfOk result (λ reply. (names : List (List ℕ)) (keyed : Bool) → IsCommandReply names keyed (Command.Refute key) session.old.present session.new.present reply.text.items reply.status) }
 {
     answers_are_verdicts();
@@ -96,7 +96,7 @@ pub fn refute(alloc: Global, session: &mut Session, key: Item) -> Result<Reply, 
         Ok(Refuted::Not(answer)) => answered(alloc, verdict_of(&answer)),
         Err(RefuteFault::TooLarge) => {
             let text = Vec::from_slice(alloc, b"refused refute 2 TooLarge\n")?;
-            Ok(Reply::plain(text))
+            Ok(WrittenReply::plain(text))
         }
         Err(RefuteFault::OutOfMemory) => Err(OutOfMemory),
         Err(RefuteFault::NotDead) => unreachable!(),

@@ -21,18 +21,18 @@ use std::alloc::{AllocError, Global};
 
 /// What is written for a line, and the status of a run where that is its last answer.
 #[derive(Drop)]
-pub struct Reply {
+pub struct WrittenReply {
     pub text: Vec<u8>,
     pub status: Option<Status>,
 }
 
-impl Reply {
+impl WrittenReply {
     /// A text that is no answer.
-    pub fn plain(text: Vec<u8>) -> Reply
+    pub fn plain(text: Vec<u8>) -> WrittenReply
         ensures text { result.text.items ≡ text.items }
         ensures status { result.status ≡ None }
     {
-        Reply { text, status: None }
+        WrittenReply { text, status: None }
     }
 }
 
@@ -57,12 +57,12 @@ fn fault_line(alloc: Global, fault: CommandFault) -> Result<Vec<u8>, AllocError>
 }
 
 /// The reply to a line that is refused.
-pub fn reply_to_fault(alloc: Global, fault: CommandFault) -> Result<Reply, OutOfMemory>
+pub fn reply_to_fault(alloc: Global, fault: CommandFault) -> Result<WrittenReply, OutOfMemory>
     ensures { IfOk result (λ reply. (fault ≢ CommandFault.OutOfMemory) × (reply.text.items ≡ fault_text fault ++ codes "\n") × (reply.status ≡ None)) }
 {
     match fault {
         CommandFault::OutOfMemory => Err(OutOfMemory),
-        other => Ok(Reply::plain(fault_line(alloc, other)?)),
+        other => Ok(WrittenReply::plain(fault_line(alloc, other)?)),
     }
 }
 
@@ -88,19 +88,19 @@ fn make(alloc: Global, session: &mut Session, edit: Edit) -> Result<Vec<u8>, Out
 }
 
 /// The reply that tells an answer without an order.
-pub fn answered(alloc: Global, verdict: Verdict) -> Result<Reply, OutOfMemory>
+pub fn answered(alloc: Global, verdict: Verdict) -> Result<WrittenReply, OutOfMemory>
     ensures { IfOk result (λ reply. (reply.text.items ≡ answer_text verdict ++ codes "\n") × (reply.status ≡ Some (answer_status verdict))) }
 {
     let mut text = verdict_words(alloc, verdict)?;
     text.push(b'\n')?;
-    Ok(Reply {
+    Ok(WrittenReply {
         text,
         status: Some(status_of(verdict)),
     })
 }
 
 /// What is found for the scope.
-fn ask(alloc: Global, session: &mut Session, scope: Scope) -> Result<Reply, OutOfMemory>
+fn ask(alloc: Global, session: &mut Session, scope: Scope) -> Result<WrittenReply, OutOfMemory>
     ensures { IfOk result (λ reply. (names : List (List ℕ)) (keyed : Bool) → IsCommandReply names keyed (Command.Ask scope) session.old.present session.new.present reply.text.items reply.status) }
 {
     let verdict = session.ask(alloc, scope)?;
@@ -131,25 +131,25 @@ fn order(
     session: &mut Session,
     names: &Names,
     scope: Scope,
-) -> Result<Reply, OutOfMemory>
+) -> Result<WrittenReply, OutOfMemory>
     ensures { IfOk result (λ reply. (keyed : Bool) → IsCommandReply names.now keyed (Command.Order scope) session.old.present session.new.present reply.text.items reply.status) }
 {
     let answer = session.order(alloc, scope)?;
     let mut text = order_words(alloc, names, &answer)?;
     text.push(b'\n')?;
-    Ok(Reply {
+    Ok(WrittenReply {
         text,
         status: Some(status_of(verdict_of(&answer))),
     })
 }
 
 /// What is found of all objects.
-fn report(alloc: Global, session: &mut Session, names: &Names) -> Result<Reply, OutOfMemory>
+fn report(alloc: Global, session: &mut Session, names: &Names) -> Result<WrittenReply, OutOfMemory>
     ensures { IfOk result (λ reply. (keyed : Bool) → IsCommandReply names.now keyed Command.Report session.old.present session.new.present reply.text.items reply.status) }
 {
     let mut text = Vec::new(alloc);
     let status = write_report(alloc, session, names, &mut text)?;
-    Ok(Reply {
+    Ok(WrittenReply {
         text,
         status: Some(status),
     })
@@ -162,14 +162,14 @@ pub fn reply_to(
     session: &mut Session,
     names: &Names,
     command: Command,
-) -> Result<Reply, OutOfMemory>
+) -> Result<WrittenReply, OutOfMemory>
     requires { command ≢ Command.Pull }
     ensures reply { IfOk result (λ reply. IsCommandReply names.now keyed command session.old.present session.new.present reply.text.items reply.status) }
     ensures work { IfOk result (λ reply. command ≡ Command.Work → reply.text.items ≡ work_text session.old.meter ++ codes "\n") }
 {
     match command {
-        Command::Edit(edit) => Ok(Reply::plain(make(alloc, session, edit)?)),
-        Command::Skipped => Ok(Reply::plain(Vec::from_slice(alloc, b"skipped\n")?)),
+        Command::Edit(edit) => Ok(WrittenReply::plain(make(alloc, session, edit)?)),
+        Command::Skipped => Ok(WrittenReply::plain(Vec::from_slice(alloc, b"skipped\n")?)),
         Command::Ask(scope) => ask(alloc, session, scope),
         Command::Order(scope) => order(alloc, session, names, scope),
         Command::Report => report(alloc, session, names),

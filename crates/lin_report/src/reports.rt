@@ -6,7 +6,7 @@ ghost use Rattle.lin_report.specs.Reports.{IsReport, answer_text, counts_text, l
 
 use crate::answers::{status_of, verdict_words};
 use crate::findings::{Finding, Findings, find};
-use crate::formats::{Format, take_first_away};
+use crate::formats::{ReportFormat, take_first_away};
 use crate::json_reports::put_json_report;
 use lin_answers::Verdict;
 use lin_events::OutOfMemory;
@@ -79,7 +79,7 @@ fn put_text_report(
     session: &Session,
     found: &Findings,
 ) -> Result<(), AllocError>
-    ensures { OnOk result (text.new.items ≡ text.old.items ++ report_text names.now Format.Text session.now.present found.now.keys found.now.objects.items found.now.whole) }
+    ensures { OnOk result (text.new.items ≡ text.old.items ++ report_text names.now ReportFormat.Text session.now.present found.now.keys found.now.objects.items found.now.whole) }
 {
     put_counts(text, session.len(), found.keys)?;
     put_lines(alloc, text, names, session, &found.objects)?;
@@ -90,7 +90,7 @@ fn put_text_report(
 /// The text of a report, as it is wanted.
 fn reported_as(
     alloc: Global,
-    format: Format,
+    format: ReportFormat,
     names: &Names,
     session: &Session,
     found: &Findings,
@@ -99,9 +99,9 @@ fn reported_as(
 {
     let mut text = Vec::new(alloc);
     match format {
-        Format::Text => put_text_report(alloc, &mut text, names, session, found)?,
-        Format::Json => put_json_report(alloc, &mut text, names, session, found)?,
-        Format::Rest => {
+        ReportFormat::Text => put_text_report(alloc, &mut text, names, session, found)?,
+        ReportFormat::Json => put_json_report(alloc, &mut text, names, session, found)?,
+        ReportFormat::Rest => {
             put_json_report(alloc, &mut text, names, session, found)?;
             take_first_away(&mut text);
         }
@@ -114,7 +114,7 @@ pub fn report(
     alloc: Global,
     session: &mut Session,
     names: &Names,
-    format: Format,
+    format: ReportFormat,
 ) -> Result<(Vec<u8>, Status), OutOfMemory>
     ensures report { IfOk result (λ reported. IsReport names.now format session.old.present reported.0.items reported.1) }
     ensures present { session.new.present ≡ session.old.present }
@@ -133,11 +133,11 @@ pub fn write_report(
     names: &Names,
     out: &mut Vec<u8>,
 ) -> Result<Status, OutOfMemory>
-    ensures written { IfOk result (λ status. (text : List ℕ) × IsReport names.now Format.Text session.old.present text status × (out.new.items ≡ out.old.items ++ text)) }
+    ensures written { IfOk result (λ status. (text : List ℕ) × IsReport names.now ReportFormat.Text session.old.present text status × (out.new.items ≡ out.old.items ++ text)) }
     ensures same { OnErr result (out.new.items ≡ out.old.items) }
     ensures present { session.new.present ≡ session.old.present }
 {
-    let (text, status) = report(alloc, session, names, Format::Text)?;
+    let (text, status) = report(alloc, session, names, ReportFormat::Text)?;
     out.extend_from_slice(text.as_slice())?;
     Ok(status)
 }

@@ -11,7 +11,7 @@ ghost use Rattle.lin_formats.specs.Verdicts.{is_write_failed};
 
 use crate::commands::{Command, read_command};
 use crate::pulls::pull;
-use crate::replies::{Reply, ok_line, reply_to, reply_to_fault};
+use crate::replies::{WrittenReply, ok_line, reply_to, reply_to_fault};
 use crate::sessions::{names_are_apart, open};
 use lin_events::OutOfMemory;
 use lin_formats::{
@@ -34,7 +34,7 @@ const MOST: u64 = 1_099_511_627_776;
 
 /// What a run keeps from one line to the next.
 #[derive(Drop)]
-pub struct Engine {
+pub struct RunState {
     session: Session,
     // The spellings of the words that were read, of commands and of the file.
     names: Names,
@@ -66,7 +66,7 @@ fn reply_to_pull<R: Read>(
     follow: &mut Follow,
     file: &mut Counted<R>,
     names: &mut Names,
-) -> Result<Reply, RunFault>
+) -> Result<WrittenReply, RunFault>
     requires { failures_of file.old < u64.MAX }
     ensures reply { IfOk result (λ reply. (keyed : Bool) → Moves keyed session.old.present session.new.present names.old names.new follow.old follow.new (R.remaining (device_of file.old)) (R.remaining (device_of file.new))
         (λ before end. IsDone keyed Command.Pull before end reply.text.items reply.status)) }
@@ -76,7 +76,7 @@ fn reply_to_pull<R: Read>(
 {
     let refused = pull(session, follow, file, names)?;
     file.keep_refusal(refused);
-    Ok(Reply::plain(pull_line(alloc, refused, session.len())?))
+    Ok(WrittenReply::plain(pull_line(alloc, refused, session.len())?))
 }
 
 /// The reply to a line, of which so much is given as a line may have, and one byte more.
@@ -88,7 +88,7 @@ fn reply<R: Read>(
     file: &mut Counted<R>,
     held: &[u8],
     names: &mut Names,
-) -> Result<Reply, RunFault>
+) -> Result<WrittenReply, RunFault>
     requires { failures_of file.old < u64.MAX }
     ensures reply { IfOk result (λ reply. (line : List ℕ) → held.now ≡ take (longest_line + 1) line
         → Moves keyed session.old.present session.new.present names.old names.new follow.old follow.new (R.remaining (device_of file.old)) (R.remaining (device_of file.new))
@@ -101,7 +101,7 @@ fn reply<R: Read>(
     let said = read_command(alloc, held, keyed, names);
     names_are_apart(names);
     match said {
-        Ok(None) => Ok(Reply::plain(Vec::new(alloc))),
+        Ok(None) => Ok(WrittenReply::plain(Vec::new(alloc))),
         Ok(Some(Command::Pull)) => Ok(reply_to_pull(alloc, session, follow, file, names)?),
         Ok(Some(command)) => Ok(reply_to(alloc, keyed, session, names, command)?),
         Err(fault) => Ok(reply_to_fault(alloc, fault)?),
@@ -117,13 +117,13 @@ fn hold(held: &mut Vec<u8>, more: &[u8]) -> Result<(), OutOfMemory>
     Ok(())
 }
 
-impl Engine {
+impl RunState {
     /// Nothing was taken in.
-    fn new(alloc: Global, settings: Settings) -> Engine
+    fn new(alloc: Global, settings: Settings) -> RunState
         requires { (1 ≤ settings.budget) × (settings.budget ≤ 1000000) }
         ensures { (left before : Option (List ℕ)) → IsUnderWay settings.keyed (start_of settings left) before result left before [] }
     {
-        Engine {
+        RunState {
             session: open(alloc, settings),
             names: Names::new(alloc),
             follow: Follow::new(alloc, settings.keyed),
@@ -297,6 +297,6 @@ pub fn run<R: Read, C: Read, W: Write>(
     ensures read_counts { CountsOne (is_read_failed result) (failures_of file.old) (failures_of file.new) (failures_of commands.old) (failures_of commands.new) }
     ensures write_counts { Counts (is_write_failed result) (failures_of out.old) (failures_of out.new) }
 {
-    let mut engine = Engine::new(alloc, settings);
+    let mut engine = RunState::new(alloc, settings);
     engine.carry_out_all(alloc, settings, file, commands, out)
 }

@@ -2,7 +2,7 @@
 ghost use Rattle.std.specs.Prelude.{◌≡◌, ◌++◌, None, IfOk, codes};
 ghost use Rattle.lin_report.specs.Runs.{work_text};
 
-use crate::replies::Reply;
+use crate::replies::WrittenReply;
 use lin_events::{Meter, OutOfMemory};
 use lin_formats::put_number;
 use lin_session::Session;
@@ -23,8 +23,8 @@ fn work_line(alloc: Global, meter: &Meter) -> Result<Vec<u8>, AllocError>
 }
 
 /// What the session counted so far. It is no answer, and counts nothing.
-pub fn work(alloc: Global, session: &Session) -> Result<Reply, OutOfMemory>
+pub fn work(alloc: Global, session: &Session) -> Result<WrittenReply, OutOfMemory>
     ensures { IfOk result (λ reply. (reply.text.items ≡ work_text session.now.meter ++ codes "\n") × (reply.status ≡ None)) }
 {
-    Ok(Reply::plain(work_line(alloc, session.meter())?))
+    Ok(WrittenReply::plain(work_line(alloc, session.meter())?))
 }

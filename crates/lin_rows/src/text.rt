@@ -4,7 +4,7 @@ use std::alloc::Global;
 
 /// Where a line is read to within an escape.
 #[derive(Clone, Copy)]
-enum Place {
+enum EscapePlace {
     Plain,
     BehindBackslash,
     InCount(u32),
@@ -24,10 +24,10 @@ fn escaped(letter: char) -> Option<char> {
 }
 
 /// A count with one digit more.
-fn with_digit(count: u32, letter: char) -> Option<Place> {
+fn with_digit(count: u32, letter: char) -> Option<EscapePlace> {
     let digit = letter.to_digit(10)?;
     let count = count.checked_mul(10)?.checked_add(digit)?;
-    Some(Place::InCount(count))
+    Some(EscapePlace::InCount(count))
 }
 
 fn push_times(text: &mut String, letter: char, count: u32) -> Option<()> {
@@ -38,23 +38,23 @@ fn push_times(text: &mut String, letter: char, count: u32) -> Option<()> {
 }
 
 /// Reads one more letter of a line.
-fn read(text: &mut String, place: Place, letter: char) -> Option<Place> {
+fn read(text: &mut String, place: EscapePlace, letter: char) -> Option<EscapePlace> {
     match (place, letter) {
-        (Place::Plain, '\\') => return Some(Place::BehindBackslash),
-        (Place::BehindBackslash, '0'..='9') => return with_digit(0, letter),
-        (Place::InCount(count), '*') => return Some(Place::BehindCount(count)),
-        (Place::InCount(count), _) => return with_digit(count, letter),
-        (Place::Plain, _) => push_times(text, letter, 1)?,
-        (Place::BehindBackslash, _) => push_times(text, escaped(letter)?, 1)?,
-        (Place::BehindCount(count), _) => push_times(text, letter, count)?,
+        (EscapePlace::Plain, '\\') => return Some(EscapePlace::BehindBackslash),
+        (EscapePlace::BehindBackslash, '0'..='9') => return with_digit(0, letter),
+        (EscapePlace::InCount(count), '*') => return Some(EscapePlace::BehindCount(count)),
+        (EscapePlace::InCount(count), _) => return with_digit(count, letter),
+        (EscapePlace::Plain, _) => push_times(text, letter, 1)?,
+        (EscapePlace::BehindBackslash, _) => push_times(text, escaped(letter)?, 1)?,
+        (EscapePlace::BehindCount(count), _) => push_times(text, letter, count)?,
     }
-    Some(Place::Plain)
+    Some(EscapePlace::Plain)
 }
 
 /// The text that a line spells.
 pub fn spelled(alloc: Global, line: &str) -> Option<String> {
     let mut text = String::new(alloc);
-    let mut place = Place::Plain;
+    let mut place = EscapePlace::Plain;
     for letter in line.chars() {
         place = read(&mut text, place, letter)?;
     }

@@ -1,5 +1,5 @@
 //! What the operations of a bag did, as far as its whole history tells. Copies of an item are alike.
-use lin_depth::{NEVER, Operation, Span, gathered};
+use lin_depth::{NEVER, PossibleOperation, CallSpan, gathered};
 use lin_events::{Body, Call, Event, Item, OutOfMemory, Reply, Val};
 use std::alloc::Global;
 use std::collections::HashMap;
@@ -7,7 +7,7 @@ use std::collections::HashMap;
 /// A dequeue that took an item out.
 #[derive(Clone, Copy)]
 pub struct Exit {
-    pub dequeue: Span,
+    pub dequeue: CallSpan,
     pub is_placed: bool,
     /// How many copies more can be in by its return than have to be out.
     spare: usize,
@@ -28,7 +28,7 @@ pub struct Copies {
     /// Those of them that are open, and aren't placed.
     leaving: Vec<usize>,
     /// The enqueues that are open, aren't placed, and return.
-    arriving: Vec<Span>,
+    arriving: Vec<CallSpan>,
     /// Invocations of enqueues that aren't placed, and never return.
     lost: Vec<usize>,
     /// How many enqueues were invoked.
@@ -51,7 +51,7 @@ impl Copies {
     }
 
     /// The dequeue returns next, of those that took a copy out.
-    fn add_exit(&mut self, dequeue: Span) -> Result<usize, OutOfMemory> {
+    fn add_exit(&mut self, dequeue: CallSpan) -> Result<usize, OutOfMemory> {
         let rank = self.exits.len();
         self.exits.push(Exit {
             dequeue,
@@ -97,7 +97,7 @@ impl Copies {
     }
 
     /// An enqueue is invoked.
-    pub fn arrive(&mut self, enqueue: Span) -> Result<(), OutOfMemory> {
+    pub fn arrive(&mut self, enqueue: CallSpan) -> Result<(), OutOfMemory> {
         if enqueue.end == NEVER {
             self.lost.push(enqueue.begin)?;
         } else {
@@ -107,7 +107,7 @@ impl Copies {
     }
 
     /// The enqueue returns; whether it isn't placed.
-    pub fn arrived(&mut self, enqueue: Span) -> bool {
+    pub fn arrived(&mut self, enqueue: CallSpan) -> bool {
         let open = self.arriving.len();
         self.arriving.retain(|other| other.begin != enqueue.begin);
         self.arriving.len() < open
@@ -161,8 +161,8 @@ impl Copies {
 /// What an event tells of a bag. Copies are named by the place of theirs, and dequeues that took them out by rank.
 #[derive(Clone, Copy)]
 pub enum Moment {
-    EnqueueBegins(usize, Span),
-    EnqueueEnds(usize, Span),
+    EnqueueBegins(usize, CallSpan),
+    EnqueueEnds(usize, CallSpan),
     DequeueBegins(usize, usize),
     DequeueEnds(usize, usize),
     /// A dequeue that will find nothing is invoked.
@@ -228,7 +228,7 @@ impl Bag {
     fn add(
         &mut self,
         alloc: Global,
-        operation: &Operation,
+        operation: &PossibleOperation,
         events: &[Event],
     ) -> Result<(), OutOfMemory> {
         let span = operation.span;
@@ -255,7 +255,7 @@ impl Bag {
     }
 
     /// The dequeue took the item out.
-    fn add_exit(&mut self, alloc: Global, item: Item, dequeue: Span) -> Result<(), OutOfMemory> {
+    fn add_exit(&mut self, alloc: Global, item: Item, dequeue: CallSpan) -> Result<(), OutOfMemory> {
         let place = self.place_of(alloc, item)?;
         if let Some(copies) = self.copies.get_mut(place) {
             let rank = copies.add_exit(dequeue)?;

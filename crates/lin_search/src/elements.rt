@@ -1,5 +1,5 @@
 //! What the operations of a queue did, as far as its whole history tells, where each item is put in once.
-use lin_depth::{NEVER, Operation, Span, gathered};
+use lin_depth::{NEVER, PossibleOperation, CallSpan, gathered};
 use lin_events::{Body, Call, Event, Item, OutOfMemory, Reply, Val};
 use std::alloc::Global;
 use std::collections::HashMap;
@@ -8,9 +8,9 @@ use std::collections::HashMap;
 #[derive(Clone, Copy)]
 pub struct Element {
     pub item: Item,
-    pub enqueue: Span,
+    pub enqueue: CallSpan,
     /// The dequeue that found it, if one did.
-    pub dequeue: Option<Span>,
+    pub dequeue: Option<CallSpan>,
     /// The first of the dequeues that found nothing, by number, for which it has to be gone, or `NEVER`.
     pub group: usize,
 }
@@ -38,7 +38,7 @@ pub struct Queue {
     /// In the order in which they were called in.
     pub elements: Vec<Element>,
     /// Dequeues that found nothing.
-    pub vain: Vec<Span>,
+    pub vain: Vec<CallSpan>,
     /// Invocations of dequeues that never returned, the latest first.
     pub open: Vec<usize>,
 }
@@ -69,7 +69,7 @@ impl Queue {
     fn put_in(
         &mut self,
         alloc: Global,
-        operations: &[Operation],
+        operations: &[PossibleOperation],
     ) -> Result<Option<HashMap<Item, usize>>, OutOfMemory> {
         let mut places = HashMap::new(alloc);
         for operation in operations {
@@ -93,7 +93,7 @@ impl Queue {
     fn take_out(
         &mut self,
         places: &HashMap<Item, usize>,
-        operation: &Operation,
+        operation: &PossibleOperation,
         events: &[Event],
     ) -> Result<bool, OutOfMemory> {
         let Some(event) = events.get(operation.span.end) else {

@@ -1,6 +1,6 @@
 //! A search for the order in which the elements of a queue are put in and taken out. It promises nothing.
 use crate::elements::{Element, Queue};
-use lin_depth::{NEVER, Span};
+use lin_depth::{NEVER, CallSpan};
 use lin_events::OutOfMemory;
 use std::alloc::Global;
 
@@ -78,7 +78,7 @@ fn remove(queue: &mut Queue, element: usize, number: usize) -> Option<usize> {
     let old = queue.elements.get(element).copied()?;
     let dequeue = match old.dequeue {
         Some(dequeue) => dequeue,
-        None => Span {
+        None => CallSpan {
             begin: queue.open.pop()?,
             end: NEVER,
         },
@@ -226,7 +226,7 @@ impl Ranking {
         if element.dequeue.is_some() {
             return None;
         }
-        element.dequeue = Some(Span {
+        element.dequeue = Some(CallSpan {
             begin: queue.open.pop()?,
             end: NEVER,
         });

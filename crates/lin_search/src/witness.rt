@@ -19,7 +19,7 @@ use lin_events::{Event, Item, Meter, OutOfMemory, beginnings_are_well_formed};
 use lin_failures::{BagConflict, Conflict, bag_failure, is_bag_refuted, is_refuted};
 use lin_objects::{Kind, Kinds};
 use lin_orders::{Placed, check_order};
-use lin_queues::{End, failing_event};
+use lin_queues::{QueueFinding, failing_event};
 use lin_ranks::{overtaken_ranks_are_illegal, rank_failure};
 use lin_registers::{register_failure, register_order};
 use std::alloc::Global;
@@ -342,8 +342,8 @@ fn indebted(alloc: Global, events: &[Event], until: usize) -> Result<Option<usiz
     beginnings_are_well_formed();
     let mut unread = Meter::new();
     match failing_event(alloc, &events[..until], &mut unread)? {
-        End::Fails(at) => Ok(Some(at)),
-        End::Stands | End::GaveUp => Ok(None),
+        QueueFinding::Fails(at) => Ok(Some(at)),
+        QueueFinding::Stands | QueueFinding::GaveUp => Ok(None),
     }
 }
 

@@ -4,7 +4,7 @@ ghost use Rattle.lin_events.specs.declared.items.Item.{Item as ItemOf};
 ghost use Rattle.lin_sets.specs.Endings.{AreBefore, AreBy, AreKept, AreLearned, AreListed, AreSame, known_in};
 
 use crate::levels::has;
-use crate::places::Places;
+use crate::places::ItemPlaces;
 use lin_events::{IntSet, Item, OutOfMemory};
 use std::alloc::Global;
 
@@ -18,7 +18,7 @@ pub(crate) struct Ending {
 /// Where each item was known first to be in a set, for look-ups and in their order.
 #[derive(Drop)]
 pub(crate) struct Endings {
-    known: Places,
+    known: ItemPlaces,
     listed: Vec<Ending>,
 }
 
@@ -29,7 +29,7 @@ impl Endings {
         ensures listed { AreListed result }
     {
         Endings {
-            known: Places::new(alloc),
+            known: ItemPlaces::new(alloc),
             listed: Vec::new(alloc),
         }
     }

@@ -23,7 +23,7 @@ use crate::endings::Endings;
 use crate::levels::{has, put_level, remove_level, take_level_back};
 use crate::news::{News, news_of};
 use crate::openings::{Opened, Openings};
-use crate::places::Places;
+use crate::places::ItemPlaces;
 use lin_events::{Body, Call, Event, IntSet, Item, OutOfMemory, Reply};
 use lin_intervals::{conflicts_refute, order_of_acts};
 use lin_orders::Placed;
@@ -36,7 +36,7 @@ pub struct Intervals {
     /// The item that is added by the operation at each place, if it is an add that has not failed.
     adds: Vec<Option<Item>>,
     /// The place of the first such add of each item.
-    first: Places,
+    first: ItemPlaces,
     endings: Endings,
     /// What reads found, the least first.
     levels: Vec<IntSet>,
@@ -79,7 +79,7 @@ fn added_by(call: Call) -> Option<Item>
 }
 
 /// Lists the item that the call adds, if it does.
-fn list_added(first: &mut Places, call: Call) -> Result<(), OutOfMemory>
+fn list_added(first: &mut ItemPlaces, call: Call) -> Result<(), OutOfMemory>
     ensures same { (other : ItemOf) → place_in first.new other ≡ place_in first.old other }
     ensures kept { (other : ItemOf) → IsListed first.old other → IsListed first.new other }
     ensures listed { OnOk result ((item : ItemOf) → call ≡ Called.Add item → IsListing first.old first.new item) }
@@ -92,7 +92,7 @@ fn list_added(first: &mut Places, call: Call) -> Result<(), OutOfMemory>
 }
 
 /// The item that the call adds, if it does, has this place from now on, if it had none.
-fn note_added(first: &mut Places, call: Call, at: usize)
+fn note_added(first: &mut ItemPlaces, call: Call, at: usize)
     ensures add { (item : ItemOf) → call ≡ Called.Add item → IsListed first.old item → IsNoted first.old first.new item at }
     ensures other { ((item : ItemOf) → call ≡ Called.Add item → ⊥) → first.new ≡ first.old }
 {
@@ -122,7 +122,7 @@ fn restore(adds: &mut Vec<Option<Item>>, at: usize, item: Item)
 }
 
 /// What was invoked at the place wasn't: if it is the first add of its item, that has none.
-fn uncall(first: &mut Places, call: Call, at: usize)
+fn uncall(first: &mut ItemPlaces, call: Call, at: usize)
     ensures add { (item : ItemOf) → call ≡ Called.Add item → IsLeft first.old first.new item at }
     ensures other { ((item : ItemOf) → call ≡ Called.Add item → ⊥) → first.new ≡ first.old }
 {
@@ -140,7 +140,7 @@ fn later(first: usize, second: usize) -> usize
 }
 
 /// The latest of the place and the first adds of the items, if each has one.
-fn latest(first: &Places, at: usize, items: &[Item]) -> Option<usize>
+fn latest(first: &ItemPlaces, at: usize, items: &[Item]) -> Option<usize>
     ensures { IsLatest first.now at items.now result }
 {
     let mut latest = at;
@@ -159,7 +159,7 @@ impl Intervals {
         Intervals {
             openings: Openings::new(alloc),
             adds: Vec::new(alloc),
-            first: Places::new(alloc),
+            first: ItemPlaces::new(alloc),
             endings: Endings::new(alloc),
             levels: Vec::new(alloc),
             reads: Vec::new(alloc),

@@ -10,11 +10,11 @@ use std::marker::Model;
 
 /// The place that each item has, if it has one.
 #[derive(Drop)]
-pub(crate) struct Places {
+pub(crate) struct ItemPlaces {
     listed: HashMap<Item, Option<usize>>,
 }
 
-impl Model for Places {
+impl Model for ItemPlaces {
     ghost use Rattle.std.specs.Prelude.{ℕ, List, Option};
     ghost use Rattle.lin_events.specs.declared.items.Item.{Item as ItemOf};
 
@@ -23,12 +23,12 @@ impl Model for Places {
     ghost view = { λ p. p.listed.entries };
 }
 
-impl Places {
+impl ItemPlaces {
     /// No item has one.
-    pub(crate) fn new(alloc: Global) -> Places
+    pub(crate) fn new(alloc: Global) -> ItemPlaces
         ensures { (item : ItemOf) → place_in result item ≡ None }
     {
-        Places {
+        ItemPlaces {
             listed: HashMap::new(alloc),
         }
     }

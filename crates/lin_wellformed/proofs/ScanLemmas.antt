@@ -18,7 +18,7 @@ use Rattle.lin_wellformed.specs.declared.scan.Scan.{Scan}
 use Rattle.lin_events.specs.declared.shapes.Cause.{Cause}
 use Rattle.lin_events.specs.declared.shapes.Shape.{Shape}
 use Rattle.lin_events.specs.declared.shapes.Shape.TheVariants.{Good, Bad}
-use Rattle.lin_events.specs.declared.shapes.Status.{Status}
+use Rattle.lin_events.specs.declared.shapes.ProcessStatus.{ProcessStatus}
 use Rattle.lin_wellformed.specs.Scans.{ready_count, IsRight, AgreeBefore, looked_at, good_count}
 use Rattle.lin_wellformed.specs.Tables.{Statuses, count_in, status_at}
 use Rattle.lin_events.specs.WellFormed.{left_by, IsStatus, Holds, IsFirstCause, IsBad, IsShape}
@@ -47,7 +47,7 @@ table_within kinds h scan right = by scan.shape refl
 
 module _ (decided : EventsDecideStatuses) (others : OtherStatusesStay) where
   -- what a process is after one more event
-  status_next : (h : List Event) (n : ℕ) (event : Event) (process : ℕ) (before after : Status) → IsEvent h n event
+  status_next : (h : List Event) (n : ℕ) (event : Event) (process : ℕ) (before after : ProcessStatus) → IsEvent h n event
       → after ≡ cond (nat_eq event.process process) (left_by event) before → IsStatus (take n h) process before → IsStatus (take (suc n) h) process after
   status_next h n event process before after stands taken was =
       subst (λ l. IsStatus l process after) (sym (take_next n h event stands)) (by (nat_eq event.process process) refl)

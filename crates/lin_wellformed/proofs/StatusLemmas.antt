@@ -3,7 +3,7 @@ use Rattle.std.proofs.Common.{◌≡◌, ℕ, ◌<◌, ◌≤◌, List, inl, inr
 use Rattle.std.proofs.lemmas.Bool.{cases_lt}
 use Rattle.lin_events.specs.declared.events.Event.{Event}
 use Rattle.lin_events.specs.Operations.{IsEvent, IsOf}
-use Rattle.lin_events.specs.declared.shapes.Status.{Status}
+use Rattle.lin_events.specs.declared.shapes.ProcessStatus.{ProcessStatus}
 use Rattle.lin_events.specs.WellFormed.{left_by, IsStatus}
 
 -- what stands at one position is one
@@ -21,5 +21,5 @@ none_more h process at event stands other none k from of_it = elim (cases_lt at 
 ]
 
 -- what the look back stops at
-pub status_here : (h : List Event) (process at : ℕ) (event : Event) (status : Status) → IsEvent h at event → event.process ≡ process → status ≡ left_by event → ((k : ℕ) → at < k → IsOf h process k → ⊥) → IsStatus h process status
+pub status_here : (h : List Event) (process at : ℕ) (event : Event) (status : ProcessStatus) → IsEvent h at event → event.process ≡ process → status ≡ left_by event → ((k : ℕ) → at < k → IsOf h process k → ⊥) → IsStatus h process status
 status_here h process at event status stands same left none = inr (at, event, record { stands = stands; same = same; last = none }, left)

@@ -3,19 +3,19 @@ use Rattle.std.proofs.Common.{◌≡◌, ℕ, ◌≤◌, Bool, true, false, List
 use Rattle.std.proofs.lemmas.Bool.Decides.{Decides-eqb}
 use Rattle.std.proofs.lemmas.List.{drop-append-le}
 use Rattle.std.specs.Map.{lookup}
-use Rattle.lin_events.specs.declared.shapes.Status.{Status}
-use Rattle.lin_events.specs.declared.shapes.Status.TheVariants.{Idle}
+use Rattle.lin_events.specs.declared.shapes.ProcessStatus.{ProcessStatus}
+use Rattle.lin_events.specs.declared.shapes.ProcessStatus.TheVariants.{Idle}
 use Rattle.lin_wellformed.specs.declared.tables.Change.{Change}
 use Rattle.lin_wellformed.specs.Tables.{status_in, status_before}
 
 -- the last change tells what stands before it
-before_last : (changes : List Change) (last : Change) (process : ℕ) (now : Status)
+before_last : (changes : List Change) (last : Change) (process : ℕ) (now : ProcessStatus)
     → status_before (changes ++ last ∷ []) process now ≡ status_before changes process (cond (nat_eq last.process process) last.before now)
 before_last [] last process now = refl
 before_last (change ∷ later) last process now = ap (λ s. cond (nat_eq change.process process) change.before s) (before_last later last process now)
 
 -- where one list of processes is another with its last change taken back, the two tell the same of each time before it
-pub same_before : (changes : List Change) (last : Change) (fewer more : List (ℕ × Status))
+pub same_before : (changes : List Change) (last : Change) (fewer more : List (ℕ × ProcessStatus))
     → ((process : ℕ) → status_in fewer process ≡ cond (nat_eq last.process process) last.before (status_in more process))
     → (k process : ℕ) → k ≤ length changes → status_before (drop k (changes ++ last ∷ [])) process (status_in more process) ≡ status_before (drop k changes) process (status_in fewer process)
 same_before changes last fewer more back k process upto =
@@ -24,7 +24,7 @@ same_before changes last fewer more back k process upto =
     ∙ ap (λ s. status_before (drop k changes) process s) (sym (back process))
 
 -- a status that was put at a key is what that process is, and the others stay
-pub status_put : (listed put : List (ℕ × Status)) (changed : ℕ) (status : Status) → ((q : ℕ) → lookup (nat_eq q) put ≡ cond (nat_eq changed q) (Some status) (lookup (nat_eq q) listed))
+pub status_put : (listed put : List (ℕ × ProcessStatus)) (changed : ℕ) (status : ProcessStatus) → ((q : ℕ) → lookup (nat_eq q) put ≡ cond (nat_eq changed q) (Some status) (lookup (nat_eq q) listed))
     → (process : ℕ) → status_in put process ≡ cond (nat_eq changed process) status (status_in listed process)
 status_put listed put changed status puts process = ap (λ o. unwrap_or o Idle) (puts process) ∙ by (nat_eq changed process)
   where
@@ -33,7 +33,7 @@ status_put listed put changed status puts process = ap (λ o. unwrap_or o Idle) 
     by false = refl
 
 -- with what a process was before put at its key again, each is what it was before
-pub status_put_back : (listed put : List (ℕ × Status)) (changed : ℕ) (status before : Status) → before ≡ status_in listed changed
+pub status_put_back : (listed put : List (ℕ × ProcessStatus)) (changed : ℕ) (status before : ProcessStatus) → before ≡ status_in listed changed
     → ((process : ℕ) → status_in put process ≡ cond (nat_eq changed process) status (status_in listed process))
     → (process : ℕ) → status_in listed process ≡ cond (nat_eq changed process) before (status_in put process)
 status_put_back listed put changed status before was puts process = by (nat_eq changed process) refl

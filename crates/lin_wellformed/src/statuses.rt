@@ -7,25 +7,25 @@ ghost use Rattle.lin_events.specs.declared.calls.Name.{Name as NameOf};
 ghost use Rattle.lin_events.specs.WellFormed.{left_by, IsStatus, Completes, IsVerdict};
 ghost use Rattle.lin_objects.specs.Kinds.{kind_of, functions_of};
 
-use lin_events::{Body, Call, Cause, Event, Item, Name, Status};
+use lin_events::{Body, Call, Cause, Event, Item, Name, ProcessStatus};
 use lin_objects::{Any, Kinds, SeqObject};
 
 /// What the event leaves its process as.
-pub fn status_after(event: &Event) -> Status
+pub fn status_after(event: &Event) -> ProcessStatus
     ensures { result ≡ left_by event.now }
 {
     match &event.body {
-        Body::Invoke(call) => Status::Busy {
+        Body::Invoke(call) => ProcessStatus::Busy {
             called: call.name(),
             key: event.key,
         },
-        Body::Ok(_, _) | Body::Fail(_) => Status::Idle,
-        Body::Info(_) => Status::Retired,
+        Body::Ok(_, _) | Body::Fail(_) => ProcessStatus::Idle,
+        Body::Info(_) => ProcessStatus::Retired,
     }
 }
 
 /// What the process is after the events, by a look back that stops at its last one.
-pub fn status_at_end(events: &[Event], process: u64) -> Status
+pub fn status_at_end(events: &[Event], process: u64) -> ProcessStatus
     ensures { IsStatus events.now process result }
 {
     for at in (0..events.len()).rev() {
@@ -34,11 +34,11 @@ pub fn status_at_end(events: &[Event], process: u64) -> Status
             return status_after(event);
         }
     }
-    Status::Idle
+    ProcessStatus::Idle
 }
 
 /// The first cause for which the event is bad, where its process is this before it.
-pub fn first_cause(status: Status, event: &Event, kinds: &Kinds) -> Option<Cause>
+pub fn first_cause(status: ProcessStatus, event: &Event, kinds: &Kinds) -> Option<Cause>
     ensures { IsVerdict (functions_of (kind_of kinds.now)) status event.now result }
 {
     match &event.body {
@@ -49,28 +49,28 @@ pub fn first_cause(status: Status, event: &Event, kinds: &Kinds) -> Option<Cause
     }
 }
 
-fn cause_at_invocation(status: Status, call: &Call, key: Item, kinds: &Kinds) -> Option<Cause>
+fn cause_at_invocation(status: ProcessStatus, call: &Call, key: Item, kinds: &Kinds) -> Option<Cause>
     ensures { (event : EventOf) → event.body ≡ Invoke call.now → event.key ≡ key → IsVerdict (functions_of (kind_of kinds.now)) status event result }
 {
     let object = Any {
         kind: kinds.of(key),
     };
     match status {
-        Status::Retired => Some(Cause::RetiredProcess),
-        Status::Busy { .. } => Some(Cause::BusyProcess),
-        Status::Idle if object.allows(call.name()) => None,
-        Status::Idle => Some(Cause::NotOfKind),
+        ProcessStatus::Retired => Some(Cause::RetiredProcess),
+        ProcessStatus::Busy { .. } => Some(Cause::BusyProcess),
+        ProcessStatus::Idle if object.allows(call.name()) => None,
+        ProcessStatus::Idle => Some(Cause::NotOfKind),
     }
 }
 
-fn cause_at_completion(status: Status, name: Name, key: Item) -> Option<Cause>
+fn cause_at_completion(status: ProcessStatus, name: Name, key: Item) -> Option<Cause>
     ensures { (functions : ItemOf → NameOf → Bool) (event : EventOf) → Completes event.body name → event.key ≡ key → IsVerdict functions status event result }
 {
     match status {
-        Status::Retired => Some(Cause::RetiredProcess),
-        Status::Idle => Some(Cause::NoInvocation),
-        Status::Busy { called, .. } if called != name => Some(Cause::OtherCall),
-        Status::Busy { key: invoked, .. } if invoked != key => Some(Cause::OtherKey),
-        Status::Busy { .. } => None,
+        ProcessStatus::Retired => Some(Cause::RetiredProcess),
+        ProcessStatus::Idle => Some(Cause::NoInvocation),
+        ProcessStatus::Busy { called, .. } if called != name => Some(Cause::OtherCall),
+        ProcessStatus::Busy { key: invoked, .. } if invoked != key => Some(Cause::OtherKey),
+        ProcessStatus::Busy { .. } => None,
     }
 }

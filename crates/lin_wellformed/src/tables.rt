@@ -4,7 +4,7 @@ ghost use Rattle.lin_events.specs.WellFormed.{left_by};
 ghost use Rattle.lin_wellformed.specs.Tables.{count_in, status_at};
 
 use crate::statuses::status_after;
-use lin_events::{Event, OutOfMemory, Status};
+use lin_events::{Event, OutOfMemory, ProcessStatus};
 use std::alloc::Global;
 use std::collections::HashMap;
 use std::marker::Model;
@@ -13,7 +13,7 @@ use std::marker::Model;
 #[derive(Clone, Copy)]
 pub(crate) struct Change {
     process: u64,
-    before: Status,
+    before: ProcessStatus,
 }
 
 /// What each process is after some events, and what each of these events changed.
@@ -21,7 +21,7 @@ pub(crate) struct Change {
 /// Every process that changed is listed, so that taking events back needs no memory.
 #[derive(Drop)]
 pub(crate) struct Table {
-    processes: HashMap<u64, Status>,
+    processes: HashMap<u64, ProcessStatus>,
     changes: Vec<Change>,
 }
 
@@ -39,7 +39,7 @@ impl Table {
     /// Before any event, each process is idle.
     pub(crate) fn new(alloc: Global) -> Table
         ensures count { count_in result ≡ 0 }
-        ensures idle { (process : ℕ) → status_at result 0 process ≡ Status.Idle }
+        ensures idle { (process : ℕ) → status_at result 0 process ≡ ProcessStatus.Idle }
     {
         Table {
             processes: HashMap::new(alloc),
@@ -55,7 +55,7 @@ impl Table {
     }
 
     /// One more event: its process is what the event leaves it as. Tells what that was before.
-    pub(crate) fn take_in(&mut self, event: &Event) -> Result<Status, OutOfMemory>
+    pub(crate) fn take_in(&mut self, event: &Event) -> Result<ProcessStatus, OutOfMemory>
         ensures was { IfOk result (λ status. status ≡ status_at self.old (count_in self.old) event.now.process) }
         ensures count { OnOk result (count_in self.new ≡ count_in self.old + 1) }
         ensures before { OnOk result ((k process : ℕ) → k ≤ count_in self.old → status_at self.new k process ≡ status_at self.old k process) }
@@ -67,7 +67,7 @@ impl Table {
         }
         match self.processes.insert(event.process, status_after(event)) {
             Ok(before) => {
-                let before = before.unwrap_or(Status::Idle);
+                let before = before.unwrap_or(ProcessStatus::Idle);
                 self.changes.push_reserved(Change {
                     process: event.process,
                     before,

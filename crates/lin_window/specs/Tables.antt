@@ -10,13 +10,13 @@ use Rattle.lin_texts.specs.declared.place.Place.{Place}
 use Rattle.lin_words.specs.Operations.{operation_text}
 use Rattle.lin_words.specs.Spots.{span_at}
 use Rattle.lin_words.specs.Tables.{range_text, span_text, table_text}
-use Rattle.lin_words.specs.declared.tables.Row.{Row}
+use Rattle.lin_words.specs.declared.tables.TableRow.{TableRow}
 use Rattle.lin_window.specs.Operations.{IsBeside, IsInvoked, IsOpenAt, IsOutcome}
 use Rattle.lin_window.specs.declared.operations.Outcome.{Outcome}
 use Rattle.lin_window.specs.declared.operations.Outcome.TheVariants as Stands
 use Rattle.lin_window.specs.declared.marks.Chosen.{Chosen}
-use Rattle.lin_window.specs.declared.marks.Listed.{Listed}
-use Rattle.lin_window.specs.declared.marks.Listed.TheVariants.{Around, Open}
+use Rattle.lin_window.specs.declared.marks.ListedOperations.{ListedOperations}
+use Rattle.lin_window.specs.declared.marks.ListedOperations.TheVariants.{Around, Open}
 use Rattle.lin_window.specs.declared.marks.Mark.{Mark}
 use Rattle.lin_window.specs.declared.marks.Mark.TheVariants.{Failing, Named, Beside, Other}
 use Rattle.lin_window.specs.declared.rows.Stretch.{Stretch}
@@ -38,7 +38,7 @@ pub data Listing : Type 0 where
   open_ones : Listing
   around : (call from : ℕ) (named : List ℕ) → Listing
 
-abbrev pub listing_of : Listed → Listing
+abbrev pub listing_of : ListedOperations → Listing
 listing_of Open = open_ones
 listing_of (Around w) = around w.call w.from w.named.now
 
@@ -120,7 +120,7 @@ abbrev pub position_in : List ℕ → ℕ → ℕ
 position_in picks at = unwrap_or (slice_get picks at) 0
 
 -- the positions of the invocation and of the end, where these stand in the file, and the operation with what became of it
-pub record IsRow (s : Told) (x : Chosen) (row : Row) : Type 0 where
+pub record IsRow (s : Told) (x : Chosen) (row : TableRow) : Type 0 where
   pub process : ℕ
   pub key : Item
   pub call : Call
@@ -141,7 +141,7 @@ more_text (suc more) = codes "  and " ++ decimal (suc more) ++ codes " more\n"
 pub record IsTable (s : Told) (listed : Listing) (text : List ℕ) : Type 0 where
   pub shown : List Chosen
   pub left : List Chosen
-  pub rows : List Row
+  pub rows : List TableRow
   pub chosen : IsChoice (λ x. HasMark s.events listed x.at x.mark) listed shown left
   pub lines : AllZip (IsRow s) shown rows
   pub is : text ≡ table_text rows ++ more_text (length left)

@@ -5,7 +5,7 @@ ghost use Rattle.lin_window.specs.declared.marks.Chosen.{Chosen as ChosenOf};
 ghost use Rattle.lin_window.specs.Choices.{IsHindmost, TakesIn};
 ghost use Rattle.lin_window.specs.Tables.{HasMark, IsChoice, IsEarlier, listing_of};
 
-use crate::marks::{Chosen, Listed, is_ahead, mark_of};
+use crate::marks::{Chosen, ListedOperations, is_ahead, mark_of};
 use lin_events::Event;
 use std::alloc::{AllocError, Global};
 
@@ -20,7 +20,7 @@ pub(crate) struct Choice {
 }
 
 /// The place of the one that is chosen last of all.
-fn hindmost(listed: &Listed, chosen: &[Chosen]) -> usize
+fn hindmost(listed: &ListedOperations, chosen: &[Chosen]) -> usize
     requires some { 0 < length chosen.now }
     requires rising { AllPairs IsEarlier chosen.now }
     ensures { IsHindmost (listing_of listed.now) chosen.now result }
@@ -35,7 +35,7 @@ fn hindmost(listed: &Listed, chosen: &[Chosen]) -> usize
 }
 
 /// Puts a later operation last. Of more than eight the one that is chosen last is left out, which the answer says.
-fn take_in(listed: &Listed, shown: &mut Vec<Chosen>, new: Chosen) -> Result<bool, AllocError>
+fn take_in(listed: &ListedOperations, shown: &mut Vec<Chosen>, new: Chosen) -> Result<bool, AllocError>
     requires { AllPairs IsEarlier (shown.old.items ++ new ∷ []) }
     ensures { IfOk result (λ left. TakesIn (listing_of listed.now) (shown.old.items ++ new ∷ []) left shown.new.items) }
 {
@@ -53,7 +53,7 @@ pub(crate) fn choose(
     alloc: Global,
     events: &[Event],
     ends: &[Option<usize>],
-    listed: &Listed,
+    listed: &ListedOperations,
 ) -> Result<Choice, AllocError>
     requires { IsNextTable events.now ends.now }
     ensures { IfOk result (λ choice. (left : List ChosenOf) × (choice.more ≡ length left)

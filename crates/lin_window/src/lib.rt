@@ -10,7 +10,7 @@ mod rows;
 mod tables;
 
 pub use counts::open_counts;
-pub use marks::{Listed, Window};
+pub use marks::{ListedOperations, Window};
 pub use operations::{failing_operation, ran_beside};
 pub use quiet::quiet_before;
 pub use rows::Stretch;

@@ -31,7 +31,7 @@ pub struct Window<'a> {
 
 /// Which operations a table lists.
 #[derive(Clone, Copy)]
-pub enum Listed<'a> {
+pub enum ListedOperations<'a> {
     /// Those that are open. The first invoked are chosen first.
     Open,
     /// The failing one, those that are named, those beside it, and the others from a place on. They are chosen in this order, and of
@@ -111,21 +111,21 @@ fn mark_in(events: &[Event], ends: &[Option<usize>], window: &Window, at: usize)
 pub(crate) fn mark_of(
     events: &[Event],
     ends: &[Option<usize>],
-    listed: &Listed,
+    listed: &ListedOperations,
     at: usize,
 ) -> Option<Mark>
     requires { IsNextTable events.now ends.now }
     ensures { MatchOption result ((mark : MarkOf) → HasMark events.now (listing_of listed.now) at mark → ⊥) (λ mark. HasMark events.now (listing_of listed.now) at mark) }
 {
     match listed {
-        Listed::Open => {
+        ListedOperations::Open => {
             if is_open_at(events, ends, at) {
                 Some(Mark::Other)
             } else {
                 None
             }
         }
-        Listed::Around(window) => mark_in(events, ends, window, at),
+        ListedOperations::Around(window) => mark_in(events, ends, window, at),
     }
 }
 
@@ -139,11 +139,11 @@ fn is_nearer(one: Chosen, other: Chosen) -> bool
 }
 
 /// Whether the one operation is chosen before the other.
-pub(crate) fn is_ahead(listed: &Listed, one: Chosen, other: Chosen) -> bool
+pub(crate) fn is_ahead(listed: &ListedOperations, one: Chosen, other: Chosen) -> bool
     ensures { IsTrue result ↔ IsAhead (listing_of listed.now) one other }
 {
     match listed {
-        Listed::Open => one.at < other.at,
-        Listed::Around(_) => is_nearer(one, other),
+        ListedOperations::Open => one.at < other.at,
+        ListedOperations::Around(_) => is_nearer(one, other),
     }
 }

@@ -13,7 +13,7 @@ use crate::operations::{Outcome, outcome_of};
 use lin_events::{Body, Call, Event};
 use lin_names::Names;
 use lin_texts::Place;
-use lin_words::{Row, put_operation, put_range, put_span, span_of};
+use lin_words::{TableRow, put_operation, put_range, put_span, span_of};
 use std::alloc::{AllocError, Global};
 
 /// The events of one object, up to the one at which its legal orders end, and where they stand.
@@ -93,7 +93,7 @@ fn operation_words(
 }
 
 /// The line of an operation.
-fn row_of(alloc: Global, stretch: &Stretch, chosen: Chosen) -> Result<Row, AllocError>
+fn row_of(alloc: Global, stretch: &Stretch, chosen: Chosen) -> Result<TableRow, AllocError>
     requires table { IsNextTable stretch.now.events.now stretch.now.ends.now }
     requires begins { IsInvoked stretch.now.events.now chosen.at }
     ensures { IfOk result (λ row. IsRow (told_of stretch.now) chosen row) }
@@ -110,7 +110,7 @@ fn row_of(alloc: Global, stretch: &Stretch, chosen: Chosen) -> Result<Row, Alloc
     let range = range_words(alloc, from, to)?;
     let span = span_words(alloc, stretch.places, from, to)?;
     let words = operation_words(alloc, stretch.names, event.process, *call, &outcome)?;
-    Ok(Row {
+    Ok(TableRow {
         mark: chosen.mark.code(),
         range,
         span,
@@ -123,7 +123,7 @@ pub(crate) fn rows_of(
     alloc: Global,
     stretch: &Stretch,
     shown: &[Chosen],
-) -> Result<Vec<Row>, AllocError>
+) -> Result<Vec<TableRow>, AllocError>
     requires table { IsNextTable stretch.now.events.now stretch.now.ends.now }
     requires begin { All (λ x. IsInvoked stretch.now.events.now x.at) shown.now }
     ensures { IfOk result (λ rows. AllZip (IsRow (told_of stretch.now)) shown.now rows.items) }

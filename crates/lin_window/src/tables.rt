@@ -4,7 +4,7 @@ ghost use Rattle.lin_orders.specs.Tables.{IsNextTable};
 ghost use Rattle.lin_window.specs.Tables.{IsTable, listing_of, more_text, told_of};
 
 use crate::choosing::choose;
-use crate::marks::Listed;
+use crate::marks::ListedOperations;
 use crate::rows::{Stretch, rows_of};
 use lin_texts::put_number;
 use lin_words::put_table;
@@ -27,7 +27,7 @@ pub fn put_operations(
     alloc: Global,
     text: &mut Vec<u8>,
     stretch: &Stretch,
-    listed: &Listed,
+    listed: &ListedOperations,
 ) -> Result<(), AllocError>
     requires { IsNextTable stretch.now.events.now stretch.now.ends.now }
     ensures { OnOk result ((added : List ℕ) × IsTable (told_of stretch.now) (listing_of listed.now) added × (text.new.items ≡ text.old.items ++ added)) }

@@ -1,8 +1,8 @@
 -- Where events stand, as an explanation tells it: on a line of the recording, at a byte of it, or by their position alone.
 use Rattle.std.specs.Prelude.{ℕ, ◌+◌, ◌-◌, ◌==◌, ◌||◌, ◌&&◌, nat_lt, Bool, List, ◌++◌, Option, Some, None, codes, decimal, slice_get, if◌then◌else◌, option_map}
 use Rattle.lin_texts.specs.declared.place.Place.{Place}
-use Rattle.lin_words.specs.declared.tables.Span.{Span}
-use Rattle.lin_words.specs.declared.tables.Span.TheVariants.{Lines, Bytes, Nowhere}
+use Rattle.lin_words.specs.declared.tables.LineSpan.{LineSpan}
+use Rattle.lin_words.specs.declared.tables.LineSpan.TheVariants.{Lines, Bytes, Nowhere}
 
 abbrev pub line_in : Option Place → ℕ
 line_in None = 0
@@ -43,7 +43,7 @@ is_by_bytes places from None = is_shared places from
 is_by_bytes places from (Some to) = is_shared places from || is_shared places to
 
 -- where the two ends of an operation stand: by lines where both can be told so
-abbrev pub span_at : Option (List Place) → ℕ → Option ℕ → Span
+abbrev pub span_at : Option (List Place) → ℕ → Option ℕ → LineSpan
 span_at None from to = Nowhere
 span_at (Some places) from to = if is_by_bytes places from to then Bytes (offset_at places from) (option_map (offset_at places) to)
     else Lines (line_at places from) (option_map (line_at places) to)

@@ -2,7 +2,7 @@
 ghost use Rattle.std.specs.Prelude.{◌≡◌, ◌++◌, OnOk, option_map};
 ghost use Rattle.lin_words.specs.Spots.{event_spot_text, is_by_bytes as by_bytes, is_shared as shared, line_at as line_of, offset_at as offset_of, place_text, span_at, spot_text};
 
-use crate::tables::Span;
+use crate::tables::LineSpan;
 use lin_texts::{Place, put_number};
 use std::alloc::AllocError;
 
@@ -96,21 +96,21 @@ fn is_by_bytes(places: &[Place], from: usize, to: Option<usize>) -> bool
 }
 
 /// Where the two ends of an operation stand.
-pub fn span_of(places: Option<&[Place]>, from: usize, to: Option<usize>) -> Span
+pub fn span_of(places: Option<&[Place]>, from: usize, to: Option<usize>) -> LineSpan
     ensures { result ≡ span_at (option_map (λ p. p.now) places.entry) from to }
 {
     match places {
-        None => Span::Nowhere,
+        None => LineSpan::Nowhere,
         Some(places) => {
             let is_by_bytes = is_by_bytes(places, from, to);
             match (is_by_bytes, to) {
-                (true, Some(to)) => Span::Bytes(
+                (true, Some(to)) => LineSpan::Bytes(
                     offset_at(places, from),
                     Some(offset_at(places, to)),
                 ),
-                (true, None) => Span::Bytes(offset_at(places, from), None),
-                (false, Some(to)) => Span::Lines(line_at(places, from), Some(line_at(places, to))),
-                (false, None) => Span::Lines(line_at(places, from), None),
+                (true, None) => LineSpan::Bytes(offset_at(places, from), None),
+                (false, Some(to)) => LineSpan::Lines(line_at(places, from), Some(line_at(places, to))),
+                (false, None) => LineSpan::Lines(line_at(places, from), None),
             }
         }
     }

@@ -8,7 +8,7 @@ use std::alloc::AllocError;
 
 /// The line numbers or the offsets of the two ends of an operation; the second is missing where it has no end.
 #[derive(Clone, Copy)]
-pub enum Span {
+pub enum LineSpan {
     Lines(u64, Option<u64>),
     Bytes(u64, Option<u64>),
     /// Events that came by commands have no place in a file.
@@ -17,7 +17,7 @@ pub enum Span {
 
 /// A line of a table of operations.
 #[derive(Drop)]
-pub struct Row {
+pub struct TableRow {
     /// What the operation is to a failure: one character.
     pub mark: u8,
     /// The positions of its invocation and of its end.
@@ -29,7 +29,7 @@ pub struct Row {
 
 /// A line of a list: what was possible, and the operations that lead to it.
 #[derive(Drop)]
-pub struct Entry {
+pub struct ListLine {
     pub words: Vec<u8>,
     pub after: Vec<u8>,
 }
@@ -47,19 +47,19 @@ pub fn put_range(line: &mut Vec<u8>, from: u64, to: Option<u64>) -> Result<(), A
 }
 
 /// Puts last where the two ends of an operation stand.
-pub fn put_span(line: &mut Vec<u8>, span: Span) -> Result<(), AllocError>
+pub fn put_span(line: &mut Vec<u8>, span: LineSpan) -> Result<(), AllocError>
     ensures { OnOk result (line.new.items ≡ line.old.items ++ span_text span) }
 {
     match span {
-        Span::Lines(from, to) => {
+        LineSpan::Lines(from, to) => {
             line.extend_from_slice(b"line ")?;
             put_range(line, from, to)
         }
-        Span::Bytes(from, to) => {
+        LineSpan::Bytes(from, to) => {
             line.extend_from_slice(b"byte ")?;
             put_range(line, from, to)
         }
-        Span::Nowhere => Ok(()),
+        LineSpan::Nowhere => Ok(()),
     }
 }
 
@@ -92,7 +92,7 @@ fn wider(width: usize, other: usize) -> usize
 }
 
 /// How wide the positions of the rows are.
-fn range_width(rows: &[Row]) -> usize
+fn range_width(rows: &[TableRow]) -> usize
     ensures { result ≡ widest (map (λ row. row.range.items) rows.now) }
 {
     let mut width = 0;
@@ -103,7 +103,7 @@ fn range_width(rows: &[Row]) -> usize
 }
 
 /// How wide the places of the rows are.
-fn span_width(rows: &[Row]) -> usize
+fn span_width(rows: &[TableRow]) -> usize
     ensures { result ≡ widest (map (λ row. row.span.items) rows.now) }
 {
     let mut width = 0;
@@ -114,7 +114,7 @@ fn span_width(rows: &[Row]) -> usize
 }
 
 /// How wide the words of the entries are.
-fn words_width(entries: &[Entry]) -> usize
+fn words_width(entries: &[ListLine]) -> usize
     ensures { result ≡ widest (map (λ entry. entry.words.items) entries.now) }
 {
     let mut width = 0;
@@ -136,7 +136,7 @@ fn put_places(text: &mut Vec<u8>, span: &[u8], width: usize) -> Result<(), Alloc
 }
 
 /// Puts the line of an operation last, with its end; its columns are so wide.
-fn put_row(text: &mut Vec<u8>, row: &Row, range: usize, span: usize) -> Result<(), AllocError>
+fn put_row(text: &mut Vec<u8>, row: &TableRow, range: usize, span: usize) -> Result<(), AllocError>
     ensures { OnOk result (text.new.items ≡ text.old.items ++ line_of range span row.now) }
 {
     text.push(row.mark)?;
@@ -150,7 +150,7 @@ fn put_row(text: &mut Vec<u8>, row: &Row, range: usize, span: usize) -> Result<(
 }
 
 /// Puts a table last: a line for each operation, in columns.
-pub fn put_table(text: &mut Vec<u8>, rows: &[Row]) -> Result<(), AllocError>
+pub fn put_table(text: &mut Vec<u8>, rows: &[TableRow]) -> Result<(), AllocError>
     ensures { OnOk result (text.new.items ≡ text.old.items ++ table_text rows.now) }
 {
     let range = range_width(rows);
@@ -162,7 +162,7 @@ pub fn put_table(text: &mut Vec<u8>, rows: &[Row]) -> Result<(), AllocError>
 }
 
 /// Puts the line of an entry last, with its end; its words are so wide.
-fn put_entry(text: &mut Vec<u8>, entry: &Entry, width: usize) -> Result<(), AllocError>
+fn put_entry(text: &mut Vec<u8>, entry: &ListLine, width: usize) -> Result<(), AllocError>
     ensures { OnOk result (text.new.items ≡ text.old.items ++ entry_line width entry.now) }
 {
     text.extend_from_slice(b"  ")?;
@@ -174,7 +174,7 @@ fn put_entry(text: &mut Vec<u8>, entry: &Entry, width: usize) -> Result<(), Allo
 }
 
 /// Puts a list last: a line for each entry, in columns.
-pub fn put_list(text: &mut Vec<u8>, entries: &[Entry]) -> Result<(), AllocError>
+pub fn put_list(text: &mut Vec<u8>, entries: &[ListLine]) -> Result<(), AllocError>
     ensures { OnOk result (text.new.items ≡ text.old.items ++ list_text entries.now) }
 {
     let width = words_width(entries);

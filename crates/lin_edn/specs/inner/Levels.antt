@@ -9,8 +9,8 @@ use Rattle.lin_edn.specs.declared.levels.Frame.{Frame as CodeFrame}
 use Rattle.lin_edn.specs.declared.levels.Frame.TheVariants.{Elements, Entries, Tag, Discard}
 use Rattle.lin_edn.specs.declared.levels.Sequence.{Sequence}
 use Rattle.lin_edn.specs.declared.levels.Sequence.TheVariants as sequence
-use Rattle.lin_edn.specs.declared.levels.Placed.{Placed}
-use Rattle.lin_edn.specs.declared.levels.Placed.TheVariants.{Inside, Alone}
+use Rattle.lin_edn.specs.declared.levels.Fate.{Fate}
+use Rattle.lin_edn.specs.declared.levels.Fate.TheVariants.{Inside, Alone}
 
 abbrev pub kind_of : Sequence → Kind
 kind_of sequence.List = a_list
@@ -34,6 +34,6 @@ abbrev pub frames_of : List CodeFrame → List Frame
 frames_of fs = reverse (each frame_view fs)
 
 -- what became of an element that ends before a place is the machine's turn
-abbrev pub IsPlaced : Turn → ℕ → Placed → List Frame → Type 0
+abbrev pub IsPlaced : Turn → ℕ → Fate → List Frame → Type 0
 IsPlaced t used Inside st = t ≡ go st between
 IsPlaced t used (Alone e from) st = t ≡ stop (complete (view e) from used)

@@ -11,8 +11,8 @@ use Rattle.lin_events.specs.Names.{name_of}
 use Rattle.lin_events.specs.Operations.{IsEvent, IsOf, IsOperation, IsEnd}
 use Rattle.lin_events.specs.declared.shapes.Cause.{Cause}
 use Rattle.lin_events.specs.declared.shapes.Cause.TheVariants.{RetiredProcess, BusyProcess, NotOfKind, NoInvocation, OtherCall, OtherKey}
-use Rattle.lin_events.specs.declared.shapes.Status.{Status}
-use Rattle.lin_events.specs.declared.shapes.Status.TheVariants.{Idle, Busy, Retired}
+use Rattle.lin_events.specs.declared.shapes.ProcessStatus.{ProcessStatus}
+use Rattle.lin_events.specs.declared.shapes.ProcessStatus.TheVariants.{Idle, Busy, Retired}
 use Rattle.lin_events.specs.WellFormed.{Completes, left_by, IsLast, IsStatus, Holds, IsFirstCause, IsWellFormed}
 use Rattle.lin_events.specs.Alternation.{IsReturn, IsAlternating}
 use Rattle.lin_lists.specs.lemmas.Lists.{get_taken, get_begun}
@@ -38,7 +38,7 @@ one_end h at a b x y e f = (place, one_event h a x y e.ends (ap (λ k. slice_get
     ]
 
 -- each process is something after any events
-status_of : (h : List Event) (process n : ℕ) → (status : Status) × IsStatus (take n h) process status
+status_of : (h : List Event) (process n : ℕ) → (status : ProcessStatus) × IsStatus (take n h) process status
 status_of h process n = elim (last_below h process n) [
   | inl none ↦ (Idle, inl (λ k of_it. let there = get_taken n h k of_it.0 of_it.1 in none k there.0 (of_it.0, there.1, of_it.2), refl))
   | inr found ↦ (
@@ -67,13 +67,13 @@ left_busy process at (Info name) called key e = cc
 
 module _ (functions : Item → Name → Bool) (h : List Event) (well : IsWellFormed functions h) where
   -- no cause is the first that holds
-  no_cause : (at : ℕ) (event : Event) (status : Status) → IsEvent h at event → IsStatus (take at h) event.process status → (cause : Cause) → IsFirstCause functions status event cause → ⊥
+  no_cause : (at : ℕ) (event : Event) (status : ProcessStatus) → IsEvent h at event → IsStatus (take at h) event.process status → (cause : Cause) → IsFirstCause functions status event cause → ⊥
   no_cause at event status stands found cause caused = well at cause (record { event = event; stands = stands; status = status; found = found; caused = caused })
 
   invoked : (at process : ℕ) (key : Item) (call : Call) → IsOperation h at process key call → functions key (name_of call) ≡ true
   invoked at process key call begins = let found = status_of h process at in by found.0 found.1
     where
-      by : (status : Status) → IsStatus (take at h) process status → functions key (name_of call) ≡ true
+      by : (status : ProcessStatus) → IsStatus (take at h) process status → functions key (name_of call) ≡ true
       by Retired found = absurd (no_cause at (record { process = process; key = key; body = Invoke call }) Retired begins found RetiredProcess (retired_first functions Retired (record { process = process; key = key; body = Invoke call }) refl))
       by (Busy called other) found = absurd (no_cause at (record { process = process; key = key; body = Invoke call }) (Busy called other) begins found BusyProcess (busy_first functions (Busy called other) (record { process = process; key = key; body = Invoke call }) call called other refl refl))
       by Idle found = elim (cases_Bool (functions key (name_of call))) [
@@ -82,7 +82,7 @@ module _ (functions : Item → Name → Bool) (h : List Event) (well : IsWellFor
       ]
 
   -- a completion ends what was invoked last
-  ended : (end : ℕ) (ending : Event) (name : Name) → IsEvent h end ending → Completes ending.body name → (status : Status) → IsStatus (take end h) ending.process status
+  ended : (end : ℕ) (ending : Event) (name : Name) → IsEvent h end ending → Completes ending.body name → (status : ProcessStatus) → IsStatus (take end h) ending.process status
       → (at : ℕ) × (call : Call) × IsOperation h at ending.process ending.key call × (name_of call ≡ name) × IsEnd h at end ending
   ended end ending name stands completes Retired found = absurd (no_cause end ending Retired stands found RetiredProcess (retired_first functions Retired ending refl))
   ended end ending name stands completes Idle found = absurd (no_cause end ending Idle stands found NoInvocation (idle_first functions Idle ending name refl completes))
@@ -239,7 +239,7 @@ module _ (functions : Item → Name → Bool) (h : List Event) (alternating : Is
   ]
 
   -- so before a completion its process is busy with that operation
-  busy_before : (k : ℕ) (event : Event) (status : Status) → IsEvent h k event → ((at : ℕ) × (latest : Event) × IsLast (take k h) event.process at latest × (status ≡ left_by latest))
+  busy_before : (k : ℕ) (event : Event) (status : ProcessStatus) → IsEvent h k event → ((at : ℕ) × (latest : Event) × IsLast (take k h) event.process at latest × (status ≡ left_by latest))
       → (name : Name) → Completes event.body name → status ≡ Busy name event.key
   busy_before k event status stands found name completes =
       found.3 ∙ ap left_by (one_event h found.0 found.1 (record { process = event.process; key = event.key; body = Invoke operation.1 }) there.1 (ap (λ n. slice_get h n) (sym here) ∙ operation.2))
@@ -267,7 +267,7 @@ module _ (functions : Item → Name → Bool) (h : List Event) (alternating : Is
       by (inl ok) = ends ok.1.0 ok.1.1
       by (inr failed) = ends failed.0 failed.1
 
-  none_holds : (k : ℕ) (event : Event) (status : Status) → IsEvent h k event → IsStatus (take k h) event.process status → (cause : Cause) → Holds functions status event cause → ⊥
+  none_holds : (k : ℕ) (event : Event) (status : ProcessStatus) → IsEvent h k event → IsStatus (take k h) event.process status → (cause : Cause) → Holds functions status event cause → ⊥
   none_holds k event status stands found NotOfKind holds =
       let begins = subst (λ e. IsEvent h k e) (event_is event event.process event.key (Invoke holds.0) refl refl holds.1) stands in
       let allowed = alternating.allowed k event.process event.key holds.0 begins in

@@ -10,8 +10,8 @@ use Rattle.lin_events.specs.declared.events.Event.{Event}
 use Rattle.lin_events.specs.Names.{name_of}
 use Rattle.lin_events.specs.declared.shapes.Cause.{Cause}
 use Rattle.lin_events.specs.declared.shapes.Cause.TheVariants.{RetiredProcess, BusyProcess, NotOfKind, NoInvocation, OtherCall, OtherKey}
-use Rattle.lin_events.specs.declared.shapes.Status.{Status}
-use Rattle.lin_events.specs.declared.shapes.Status.TheVariants.{Idle, Busy, Retired}
+use Rattle.lin_events.specs.declared.shapes.ProcessStatus.{ProcessStatus}
+use Rattle.lin_events.specs.declared.shapes.ProcessStatus.TheVariants.{Idle, Busy, Retired}
 use Rattle.lin_events.specs.WellFormed.{Completes, Holds, number, IsFirstCause}
 
 -- an invocation is no completion
@@ -31,7 +31,7 @@ one_busy a b x y e = cc
 pub one_key : (a b : Name) (x y : Item) → Busy a x ≡ Busy b y → x ≡ y
 one_key a b x y e = cc
 
-module _ (functions : Item → Name → Bool) (status : Status) (event : Event) where
+module _ (functions : Item → Name → Bool) (status : ProcessStatus) (event : Event) where
   pub retired_first : status ≡ Retired → IsFirstCause functions status event RetiredProcess
   retired_first retired = record { holds = retired; first = first }
     where
@@ -128,7 +128,7 @@ one_number OtherKey OtherCall e = absurd (omega (arith, e))
 one_number OtherKey OtherKey e = refl
 
 -- one cause is the first that holds
-pub one_first : (functions : Item → Name → Bool) (status : Status) (event : Event) (a b : Cause) → IsFirstCause functions status event a → IsFirstCause functions status event b → a ≡ b
+pub one_first : (functions : Item → Name → Bool) (status : ProcessStatus) (event : Event) (a b : Cause) → IsFirstCause functions status event a → IsFirstCause functions status event b → a ≡ b
 one_first functions status event a b is_a is_b = elim (cases_order (number a) (number b)) [
   | inl same ↦ one_number a b same
   | inr differ ↦ elim differ [

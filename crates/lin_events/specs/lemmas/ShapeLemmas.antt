@@ -12,13 +12,13 @@ use Rattle.lin_events.specs.declared.shapes.Cause.{Cause}
 use Rattle.lin_events.specs.declared.shapes.Cause.TheVariants.{RetiredProcess, BusyProcess, NotOfKind, NoInvocation, OtherCall, OtherKey}
 use Rattle.lin_events.specs.declared.shapes.Shape.{Shape}
 use Rattle.lin_events.specs.declared.shapes.Shape.TheVariants.{Good, Bad}
-use Rattle.lin_events.specs.declared.shapes.Status.{Status}
+use Rattle.lin_events.specs.declared.shapes.ProcessStatus.{ProcessStatus}
 use Rattle.lin_events.specs.WellFormed.{IsStatus, Holds, IsFirstCause, IsBad, IsShape}
 use Rattle.lin_lists.specs.lemmas.Lists.{get_taken, get_begun, get_inside}
 use Rattle.lin_events.specs.lemmas.StatusLemmas.{one_event, one_status}
 
 -- where no cause holds, the position is not bad
-pub not_bad : (functions : Item → Name → Bool) (h : List Event) (at : ℕ) (event : Event) (status : Status) → IsEvent h at event → IsStatus (take at h) event.process status
+pub not_bad : (functions : Item → Name → Bool) (h : List Event) (at : ℕ) (event : Event) (status : ProcessStatus) → IsEvent h at event → IsStatus (take at h) event.process status
     → ((cause : Cause) → Holds functions status event cause → ⊥) → (cause : Cause) → IsBad functions h at cause → ⊥
 not_bad functions h at event status stands found none cause bad =
     let same : bad.event ≡ event = one_event h at bad.event event bad.stands stands in
@@ -27,7 +27,7 @@ not_bad functions h at event status stands found none cause bad =
     none cause (subst (λ s. Holds functions s event cause) (one_status (take at h) event.process bad.status status was found) holds)
 
 -- a cause holds alike where the objects agree on the key
-holds_alike : (functions other : Item → Name → Bool) (status : Status) (event : Event) → functions event.key ≡ other event.key → (cause : Cause) → Holds functions status event cause → Holds other status event cause
+holds_alike : (functions other : Item → Name → Bool) (status : ProcessStatus) (event : Event) → functions event.key ≡ other event.key → (cause : Cause) → Holds functions status event cause → Holds other status event cause
 holds_alike functions other status event same RetiredProcess h = h
 holds_alike functions other status event same BusyProcess h = h
 holds_alike functions other status event same NotOfKind h = (h.0, h.1, sym (ap (λ has. has (name_of h.0)) same) ∙ h.2)

@@ -3,7 +3,7 @@ use Rattle.std.proofs.Common.{◌≡◌, ◌≢◌, ℕ, ◌<◌, ◌≤◌, Lis
 use Rattle.std.proofs.lemmas.Bool.{cases_order, cases_lt}
 use Rattle.lin_events.specs.declared.events.Event.{Event}
 use Rattle.lin_events.specs.Operations.{IsEvent, IsOf}
-use Rattle.lin_events.specs.declared.shapes.Status.{Status}
+use Rattle.lin_events.specs.declared.shapes.ProcessStatus.{ProcessStatus}
 use Rattle.lin_events.specs.WellFormed.{left_by, IsLast, IsStatus}
 use Rattle.lin_lists.specs.lemmas.Lists.{get_left, get_inside, get_cases, get_last}
 
@@ -28,7 +28,7 @@ one_last h process a b x y f g = elim (cases_order a b) [
     at_one e = one_event h a x y f.stands (ap (λ k. slice_get h k) e ∙ g.stands)
 
 -- a process is one thing
-pub one_status : (h : List Event) (process : ℕ) (s t : Status) → IsStatus h process s → IsStatus h process t → s ≡ t
+pub one_status : (h : List Event) (process : ℕ) (s t : ProcessStatus) → IsStatus h process s → IsStatus h process t → s ≡ t
 one_status h process s t (inl none) (inl none2) = none.1 ∙ sym none2.1
 one_status h process s t (inl none) (inr found) = absurd (none.0 found.0 (found.1, found.2.stands, found.2.same))
 one_status h process s t (inr found) (inl none) = absurd (none.0 found.0 (found.1, found.2.stands, found.2.same))
@@ -47,7 +47,7 @@ status_of_last h event = inr (length h, event, record { stands = get_last h even
     ]
 
 -- and leaves the others as they were
-pub status_kept : (h : List Event) (event : Event) (process : ℕ) (status : Status) → event.process ≢ process → IsStatus h process status → IsStatus (h ++ event ∷ []) process status
+pub status_kept : (h : List Event) (event : Event) (process : ℕ) (status : ProcessStatus) → event.process ≢ process → IsStatus h process status → IsStatus (h ++ event ∷ []) process status
 status_kept h event process status other (inl none) = inl (λ k of_it. was k of_it, none.1)
   where
     was : (k : ℕ) → IsOf (h ++ event ∷ []) process k → ⊥
@@ -72,5 +72,5 @@ none_more h process at event stands other none k from of_it = elim (cases_lt at 
 ]
 
 -- what the look back stops at
-pub status_here : (h : List Event) (process at : ℕ) (event : Event) (status : Status) → IsEvent h at event → event.process ≡ process → status ≡ left_by event → ((k : ℕ) → at < k → IsOf h process k → ⊥) → IsStatus h process status
+pub status_here : (h : List Event) (process at : ℕ) (event : Event) (status : ProcessStatus) → IsEvent h at event → event.process ≡ process → status ≡ left_by event → ((k : ℕ) → at < k → IsOf h process k → ⊥) → IsStatus h process status
 status_here h process at event status stands same left none = inr (at, event, record { stands = stands; same = same; last = none }, left)

@@ -10,8 +10,8 @@ use Rattle.lin_history.specs.Reading.{Reading, IsReading}
 use Rattle.lin_history.specs.Table.{bare, is_word, under, process_of, type_of, function_of, body_of, said_of, parts_said, or_nil, is_several, is_by_keyword, event, event_with}
 use Rattle.lin_events.specs.declared.calls.Name.{Name}
 use Rattle.lin_history.specs.declared.table.EventType.{EventType}
-use Rattle.lin_history.specs.declared.usual.Place.{Place}
-use Rattle.lin_history.specs.declared.usual.Places.{Places}
+use Rattle.lin_history.specs.declared.usual.Extent.{Extent}
+use Rattle.lin_history.specs.declared.usual.ValueExtents.{ValueExtents}
 use Rattle.lin_history.specs.declared.usual.Process.{Process}
 use Rattle.lin_history.specs.declared.usual.Process.TheVariants.{Number, Named}
 use Rattle.lin_history.specs.declared.usual.Taken.{Taken}
@@ -23,11 +23,11 @@ kind_of true = a_set
 kind_of false = a_vector
 
 -- from a place on an element with so many levels at most stands, up to another place; where the run there ends is kept, if it is one
-abbrev pub IsValueAt : List ℕ → ℕ → Place → Value → ℕ → Type 0
+abbrev pub IsValueAt : List ℕ → ℕ → Extent → Value → ℕ → Type 0
 IsValueAt s levels p v used = Element levels p.at (drop p.at s) v used (drop used s) × (p.at < p.until → v ≡ run_value p.at (slice_range s p.at p.until))
 
 -- these are the values under a key, without their tags; the place of the element is kept
-abbrev pub IsPlaced : List ℕ → ℕ → List Value → Option Place → Type 0
+abbrev pub IsPlaced : List ℕ → ℕ → List Value → Option Extent → Type 0
 IsPlaced s levels vs None = vs ≡ []
 IsPlaced s levels vs (Some p) = (v : Value) × (used : ℕ) × (vs ≡ bare v ∷ []) × IsValueAt s levels p v used
 
@@ -54,19 +54,19 @@ IsProcess v (Number n) = process_of v ≡ Some n
 IsProcess v Named = is_by_keyword (v ∷ []) ≡ true
 
 -- the places of the values under the four keys of a map are kept
-pub record ArePlaced (s : List ℕ) (levels : ℕ) (es : Entries) (ps : Places) : Type 0 where
+pub record ArePlaced (s : List ℕ) (levels : ℕ) (es : Entries) (ps : ValueExtents) : Type 0 where
   pub process : IsPlaced s levels (under (codes ":process") es) ps.process
   pub types : IsPlaced s levels (under (codes ":type") es) ps.event_type
   pub function : IsPlaced s levels (under (codes ":f") es) ps.function
   pub values : IsPlaced s levels (under (codes ":value") es) ps.value
 
 -- a place is kept where none was, if the key is the one that counts
-abbrev pub IsPut : Bool → Option Place → Place → Option Place → Type 0
+abbrev pub IsPut : Bool → Option Extent → Extent → Option Extent → Type 0
 IsPut true old p new = (old ≡ None) × (new ≡ Some p)
 IsPut false old p new = new ≡ old
 
 -- the place of the value of a key is kept, if the key counts
-pub record IsAdded (old : Places) (k : Value) (p : Place) (new : Places) : Type 0 where
+pub record IsAdded (old : ValueExtents) (k : Value) (p : Extent) (new : ValueExtents) : Type 0 where
   pub process : IsPut (is_word (codes ":process") k) old.process p new.process
   pub types : IsPut (is_word (codes ":type") k) old.event_type p new.event_type
   pub function : IsPut (is_word (codes ":f") k) old.function p new.function
@@ -78,12 +78,12 @@ in_turn [] = []
 in_turn (e ∷ es) = e.0 ∷ e.1 ∷ in_turn es
 
 -- between an opening byte and a place stand entries with so many levels, and the places of the values that count are kept
-abbrev pub IsUpTo : List ℕ → ℕ → ℕ → ℕ → Places → Type 0
+abbrev pub IsUpTo : List ℕ → ℕ → ℕ → ℕ → ValueExtents → Type 0
 IsUpTo s from levels at ps = (es : List (Value × Value)) × ArePlaced s levels (entries_of es) ps ×
     Row levels (from + 1) (drop (from + 1) s) (in_turn es) at (drop at s)
 
 -- from one place to another stands a map with so many levels inside, and the places of the values that count are kept
-abbrev pub IsMapAt : List ℕ → ℕ → ℕ → Places → ℕ → Type 0
+abbrev pub IsMapAt : List ℕ → ℕ → ℕ → ValueExtents → ℕ → Type 0
 IsMapAt s from levels ps until = (es : Entries) × ArePlaced s levels es ps × Element (suc levels) from (drop from s) (map es) until (drop until s)
 
 -- behind white a map stands, with a tag or none and with so many levels, that tells this

@@ -5,7 +5,7 @@ use Rattle.lin_events.specs.declared.calls.Call.{Call}
 use Rattle.lin_events.specs.declared.calls.Call.TheVariants.{Acquire, Release}
 use Rattle.lin_locks.specs.declared.changes.Change.{Change}
 use Rattle.lin_locks.specs.declared.changes.Change.TheVariants.{Acquired, Invoked, Released, Stayed}
-use Rattle.lin_locks.specs.declared.changes.End.{End}
+use Rattle.lin_locks.specs.declared.changes.EndChange.{EndChange}
 use Rattle.lin_locks.specs.declared.sides.Closed.{Closed}
 use Rattle.lin_locks.specs.declared.sides.Debt.{Debt}
 use Rattle.lin_locks.specs.declared.sides.Paid.{Paid}
@@ -33,7 +33,7 @@ emptied None order = order
 emptied (Some paid) order = set order paid.debt.slot None
 
 -- of the one call an operation ended
-abbrev pub before_end : End → Part → Part
+abbrev pub before_end : EndChange → Part → Part
 before_end end part = record { opens = reopened end.closed part.opens; debts = unpaid end.paid part.debts }
 
 -- of the other one an operation is owed since then, or not
@@ -41,7 +41,7 @@ abbrev pub before_owing : Bool → Part → Part
 before_owing true part = record part { debts = shorter part.debts }
 before_owing false part = part
 
-abbrev pub order_before : End → List (Option ℕ) → List (Option ℕ)
+abbrev pub order_before : EndChange → List (Option ℕ) → List (Option ℕ)
 order_before end order = emptied end.paid (take end.length order)
 
 -- an operation with the call is open since then
@@ -85,7 +85,7 @@ all_undone [] known = known
 all_undone (change ∷ changes) known = undone change (all_undone changes known)
 
 -- the end of an operation of the one side changed this
-pub record IsUndone (end : End) (held : Bool) (own own_now other other_now : Side) (order order_now : List (Option ℕ)) : Type 0 where
+pub record IsUndone (end : EndChange) (held : Bool) (own own_now other other_now : Side) (order order_now : List (Option ℕ)) : Type 0 where
   pub own_back : before_end end (part_of own_now) ≡ part_of own
   pub other_back : before_owing end.owes (part_of other_now) ≡ part_of other
   pub order_back : order_before end order_now ≡ order

@@ -5,7 +5,7 @@ use Rattle.lin_names.specs.Spelled.{Spelled, spelled}
 use Rattle.lin_orders.specs.declared.placed.Placed.{Placed}
 use Rattle.lin_possible.specs.After.{IsWay}
 use Rattle.lin_possible.specs.Possible.{AreShown}
-use Rattle.lin_words.specs.declared.tables.Entry.{Entry}
+use Rattle.lin_words.specs.declared.tables.ListLine.{ListLine}
 use Rattle.lin_outcomes.specs.Ranks.{IsRisingBy}
 use Rattle.lin_outcomes.specs.Words.{after_text, leading_to}
 use Rattle.lin_outcomes.specs.declared.listing.Leading.{Leading}
@@ -13,7 +13,7 @@ use Rattle.lin_outcomes.specs.declared.ranks.Rank.{Rank}
 use Rattle.lin_outcomes.specs.declared.told.Told.{Told}
 
 -- the words, and the operations that an order which is told by the way has ahead
-pub record Leads (by : Leading) (told : Told) (entry : Entry) : Type 0 where
+pub record Leads (by : Leading) (told : Told) (entry : ListLine) : Type 0 where
   pub same : entry.words.items ≡ told.words.items
   pub after : (order : List Placed) → IsWay by.possible.now told.way order → entry.after.items ≡ after_text by.names.now by.events.now (leading_to by.call order)
 

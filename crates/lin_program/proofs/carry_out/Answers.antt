@@ -5,7 +5,7 @@ use Rattle.lin_report.specs.Reports.{IsCheckRun}
 use Rattle.lin_program.specs.Endings.{IsOutcomeOf, IsVerifiedBy, reported_files}
 use Rattle.lin_program.specs.Reporting.{AreAmong, AreReported}
 use Rattle.lin_program.specs.Tasks.{format_among, heading_in}
-use Rattle.lin_report.specs.declared.formats.Format.TheVariants.{Text}
+use Rattle.lin_report.specs.declared.formats.ReportFormat.TheVariants.{Text}
 use Rattle.lin_program.proofs.carry_out.Goals as goal
 
 pub returns-in-Check-clause-outcome : goal.returns-in-Check-clause-outcome

@@ -3,7 +3,7 @@ use Rattle.lin_formats.specs.Verdicts.{IsVerifyRun}
 use Rattle.lin_program.specs.Endings.{IsVerifiedBy}
 use Rattle.lin_program.specs.Reporting.{AreReported}
 use Rattle.lin_program.specs.Tasks.{heading_in}
-use Rattle.lin_report.specs.declared.formats.Format.TheVariants.{Text}
+use Rattle.lin_report.specs.declared.formats.ReportFormat.TheVariants.{Text}
 use Rattle.lin_program.proofs.verify_all.Goals as goal
 
 pub returns-in-Given : goal.returns-in-Given

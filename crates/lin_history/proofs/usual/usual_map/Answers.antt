@@ -1,5 +1,5 @@
 use Rattle.std.proofs.Common.{None, ◌+◌, ◌<◌, ◌≤◌, length, arith}
-use Rattle.lin_history.specs.declared.usual.Places.{Places}
+use Rattle.lin_history.specs.declared.usual.ValueExtents.{ValueExtents}
 use Rattle.lin_history.proofs.Maps.{blanks_more, none_yet, map_closed}
 use Rattle.lin_history.proofs.usual.usual_map.Goals as goal
 
@@ -8,7 +8,7 @@ loop-at-init c =
     let s = c.args.text.now in
     let from = c.args.from in
     let a = c.white_until-at.ensures.within.0 in
-    let none : Places = record { process = None; event_type = None; function = None; value = None } in (
+    let none : ValueExtents = record { process = None; event_type = None; function = None; value = None } in (
       omega arith,
       c.white_until-at.ensures.within.1,
       blanks_more s from (from + 1) c.white_until-at.result c.args.levels none (none_yet s from c.args.levels) c.white_until-at.ensures.row,

@@ -1,7 +1,7 @@
 use Rattle.std.proofs.Common.{◌≡◌, ◌∷◌, ◌++◌, [], None, Some, Ok, Result, Contains, length, set, take, refl, sym, ap, subst, ◌∙◌, arith}
 use Rattle.std.proofs.lemmas.List.Elements.{Contains-append_right}
 use Rattle.lin_events.specs.declared.lists.OutOfMemory.{OutOfMemory}
-use Rattle.lin_locks.specs.declared.changes.End.{End}
+use Rattle.lin_locks.specs.declared.changes.EndChange.{EndChange}
 use Rattle.lin_locks.specs.declared.sides.Side.{Side}
 use Rattle.lin_locks.specs.declared.standings.Turn.{Turn}
 use Rattle.lin_locks.specs.declared.standings.Turn.TheVariants.{Pays}
@@ -14,7 +14,7 @@ use Rattle.lin_locks.proofs.standings.turned.Goals as goal
 abbrev the_result : Turn → Result Turn OutOfMemory
 the_result a = Ok a
 
-pays_so : {a b : End} → the_result (Pays a) ≡ the_result (Pays b) → a ≡ b
+pays_so : {a b : EndChange} → the_result (Pays a) ≡ the_result (Pays b) → a ≡ b
 pays_so e = cc
 
 pub returns-in-Some-clause-pays : goal.returns-in-Some-clause-pays
@@ -31,7 +31,7 @@ returns-in-Some-clause-pays_back c end is places =
     let debt = c.in-Some.paid.debt in
     let paid = c.in-Some.ensures.paid in
     let many : c.len-length.result ≡ length order = omega (arith, c.len-length.ensures, c.reserve.ensures.len, c.args.order.now.ok.0) in
-    subst (λ (e : End). IsUndone e c.args.returned.held own c.pay.new.self c.args.other.now c.may_owe.new.self order c.fill.new.order.items) (pays_so is) (record {
+    subst (λ (e : EndChange). IsUndone e c.args.returned.held own c.pay.new.self c.args.other.now c.may_owe.new.self order c.fill.new.order.items) (pays_so is) (record {
       own_back = ap (λ o. record { opens = o; debts = unpaid (Some c.in-Some.paid) c.pay.new.self.debts.items }) c.in-Some.ensures.open ∙ ap (λ d. record { opens = own.open.items; debts = d }) c.in-Some.ensures.debts;
       other_back = c.may_owe.ensures.same;
       order_back = ap (λ l. set (take c.len-length.result l) debt.slot None) (c.fill.ensures ∙ ap (λ l. set l debt.slot (Some c.args.returned.begin)) c.reserve.ensures.items)

@@ -1,6 +1,6 @@
 use Rattle.std.proofs.Common.{◌+◌, List, subst, sym, take}
 use Rattle.std.specs.List.{AllZip}
-use Rattle.lin_words.specs.declared.tables.Entry.{Entry}
+use Rattle.lin_words.specs.declared.tables.ListLine.{ListLine}
 use Rattle.lin_outcomes.specs.inner.Telling.{Leads}
 use Rattle.lin_outcomes.proofs.Zips.{zip_more, zip_whole}
 use Rattle.lin_outcomes.proofs.listing.entries_of.Goals as goal
@@ -10,7 +10,7 @@ loop-one-preserved c =
     let by = c.args.leading_by.now in
     let told = c.args.told.now in
     let i = c.loop-one.one-index in
-    subst (AllZip (Leads by) (take (i + 1) told)) (sym {A = List Entry} c.in_ok-push.ensures.items)
+    subst (AllZip (Leads by) (take (i + 1) told)) (sym {A = List ListLine} c.in_ok-push.ensures.items)
     (zip_more (Leads by) told c.loop-one.entries.items i c.one-item.result c.in_ok-entry_of.field-0 c.loop-one-test.true c.one-item.is c.loop-one.invariant c.in_ok-entry_of.ensures)
 
 pub returns : goal.returns

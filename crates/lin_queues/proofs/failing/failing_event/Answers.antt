@@ -8,7 +8,7 @@ use Rattle.lin_orders.specs.Linearizable.{IsLinearizableAs}
 use Rattle.lin_orders.specs.lemmas.Lists.{take_more}
 use Rattle.std.proofs.lemmas.List.{take_all}
 use Rattle.lin_queues.specs.Engines.{AreDebtsOf}
-use Rattle.lin_queues.specs.declared.failing.End.TheVariants.{Fails}
+use Rattle.lin_queues.specs.declared.failing.QueueFinding.TheVariants.{Fails}
 use Rattle.lin_queues.proofs.Lists.{ok_is}
 use Rattle.std.proofs.lemmas.List.{length-take-le}
 use Rattle.lin_queues.specs.Reaching.{AreTooMany}

@@ -5,19 +5,19 @@ use Rattle.lin_events.specs.declared.calls.Call.TheVariants.{Read, Dequeue}
 use Rattle.lin_events.specs.lemmas.OneMore.{one_call}
 use Rattle.lin_events.specs.Operations.{IsOpen, IsOperation}
 use Rattle.lin_lists.specs.lemmas.Lists.{get_left, get_cases, get_last}
-use Rattle.lin_queues.specs.declared.opens.Open.{Open}
+use Rattle.lin_queues.specs.declared.opens.OpenCall.{OpenCall}
 use Rattle.lin_queues.proofs.Lists.{one_there}
 use Rattle.lin_queues.proofs.opens.dequeues_of.Goals as goal
 use Rattle.lin_queues.proofs.opens.dequeues_of.Goals.{then-is_dequeue+in_ok-push, else-is_dequeue}
 
 -- the dequeues of the first so many open operations
-record AreFirst (open' : List Open) (n : ℕ) (dequeues : List ℕ) : Type 0 where
-  from : (j x : ℕ) → slice_get dequeues j ≡ Some x → (k : ℕ) × (o : Open) × (k < n) × (slice_get open' k ≡ Some o) × (o.place ≡ x) × (o.call ≡ Dequeue)
-  rising : ((j k : ℕ) (o p : Open) → j < k → slice_get open' j ≡ Some o → slice_get open' k ≡ Some p → o.place < p.place)
+record AreFirst (open' : List OpenCall) (n : ℕ) (dequeues : List ℕ) : Type 0 where
+  from : (j x : ℕ) → slice_get dequeues j ≡ Some x → (k : ℕ) × (o : OpenCall) × (k < n) × (slice_get open' k ≡ Some o) × (o.place ≡ x) × (o.call ≡ Dequeue)
+  rising : ((j k : ℕ) (o p : OpenCall) → j < k → slice_get open' j ≡ Some o → slice_get open' k ≡ Some p → o.place < p.place)
       → (j k x y : ℕ) → j < k → slice_get dequeues j ≡ Some x → slice_get dequeues k ≡ Some y → x < y
-  complete : (k : ℕ) (o : Open) → k < n → slice_get open' k ≡ Some o → o.call ≡ Dequeue → (j : ℕ) × (slice_get dequeues j ≡ Some o.place)
+  complete : (k : ℕ) (o : OpenCall) → k < n → slice_get open' k ≡ Some o → o.call ≡ Dequeue → (j : ℕ) × (slice_get dequeues j ≡ Some o.place)
 
-with_one : (open' : List Open) (n : ℕ) (dequeues : List ℕ) (here : Open) → slice_get open' n ≡ Some here → here.call ≡ Dequeue → AreFirst open' n dequeues → AreFirst open' (n + 1) (dequeues ++ here.place ∷ [])
+with_one : (open' : List OpenCall) (n : ℕ) (dequeues : List ℕ) (here : OpenCall) → slice_get open' n ≡ Some here → here.call ≡ Dequeue → AreFirst open' n dequeues → AreFirst open' (n + 1) (dequeues ++ here.place ∷ [])
 with_one open' n dequeues here at dequeue first = record {
   from = λ j x at_j. elim (get_cases dequeues here.place j x at_j) [
     | inl old ↦ (let was = first.from j x old in (was.0, was.1, (let l = was.2 in omega arith), was.3, was.4, was.5))
@@ -37,11 +37,11 @@ with_one open' n dequeues here at dequeue first = record {
     | inl earlier ↦ (let was = first.complete k o earlier at_k is in (was.0, get_left dequeues here.place was.0 o.place was.1))
     | inr later ↦ (
         let same : k ≡ n = omega arith in
-        (length dequeues, get_last dequeues here.place ∙ ap (λ (p : Open). Some p.place) (one_there open' n here o at (subst (λ i. slice_get open' i ≡ Some o) same at_k))))
+        (length dequeues, get_last dequeues here.place ∙ ap (λ (p : OpenCall). Some p.place) (one_there open' n here o at (subst (λ i. slice_get open' i ≡ Some o) same at_k))))
   ];
 }
 
-without_one : (open' : List Open) (n : ℕ) (dequeues : List ℕ) (here : Open) → slice_get open' n ≡ Some here → (here.call ≡ Dequeue → ⊥) → AreFirst open' n dequeues → AreFirst open' (n + 1) dequeues
+without_one : (open' : List OpenCall) (n : ℕ) (dequeues : List ℕ) (here : OpenCall) → slice_get open' n ≡ Some here → (here.call ≡ Dequeue → ⊥) → AreFirst open' n dequeues → AreFirst open' (n + 1) dequeues
 without_one open' n dequeues here at other first = record {
   from = λ j x at_j. (let was = first.from j x at_j in (was.0, was.1, (let l = was.2 in omega arith), was.3, was.4, was.5));
   rising = first.rising;
@@ -49,7 +49,7 @@ without_one open' n dequeues here at other first = record {
     | inl earlier ↦ first.complete k o earlier at_k is
     | inr later ↦ (
         let same : k ≡ n = omega arith in
-        absurd (other (ap (λ (p : Open). p.call) (one_there open' n here o at (subst (λ i. slice_get open' i ≡ Some o) same at_k)) ∙ is)))
+        absurd (other (ap (λ (p : OpenCall). p.call) (one_there open' n here o at (subst (λ i. slice_get open' i ≡ Some o) same at_k)) ∙ is)))
   ];
 }
 
@@ -58,7 +58,7 @@ loop-operation-preserved c =
     let open' = c.args.open.now in
     let n = c.loop-operation.operation-index in
     let inv = c.loop-operation.invariant in
-    let none : Open = record { process = 0; place = 0; call = Read } in
+    let none : OpenCall = record { process = 0; place = 0; call = Read } in
     let here = get_or open' n (record { process = 0; place = 0; call = Read }) in
     let at = slice_get-get_or open' n (record { process = 0; place = 0; call = Read }) c.loop-operation-test.true in
     let first : AreFirst open' n c.loop-operation.dequeues.items = record { from = inv.from; rising = inv.rising; complete = inv.complete } in

@@ -1,7 +1,7 @@
 use Rattle.std.proofs.Common.{◌≡◌, Some, get_or, subst, sym, ap, ◌∙◌, arith, inl, inr, length, Contains}
 use Rattle.std.proofs.lemmas.Bool.{cases_lt}
 use Rattle.std.proofs.lemmas.Option.{slice_get_within, get_or_from_slice_get, slice_get-get_or}
-use Rattle.lin_queues.specs.declared.members.Member.{Member}
+use Rattle.lin_queues.specs.declared.members.QueueMember.{QueueMember}
 use Rattle.lin_queues.specs.Members.{Told, view_of}
 use Rattle.lin_queues.specs.Opens.{AreDequeues}
 use Rattle.lin_queues.proofs.Lists.{contains_from_get, get_from_contains}
@@ -21,7 +21,7 @@ loop-member-preserved c = record {
     | inr later ↦
         let same : k ≡ c.loop-member.member-index = omega arith in
         let here = sym (c.member-item.is ∙ ap (λ i. get_or c.args.members.now i c.member-item.result) (sym same) ∙ get_or_from_slice_get c.args.members.now k m c.member-item.result at) in
-        c.in_ok-push_unless_early.ensures.told h whole order all (subst (λ (x : Member). Contains x.early.items c.args.place → ⊥) here absent) is_whole (c.loop-member.invariant.paying h open') (subst (λ (x : Member). Told whole order (length h) all (view_of x)) here told)
+        c.in_ok-push_unless_early.ensures.told h whole order all (subst (λ (x : QueueMember). Contains x.early.items c.args.place → ⊥) here absent) is_whole (c.loop-member.invariant.paying h open') (subst (λ (x : QueueMember). Told whole order (length h) all (view_of x)) here told)
   ];
 }
 

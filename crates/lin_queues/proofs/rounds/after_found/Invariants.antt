@@ -8,7 +8,7 @@ use Rattle.lin_events.specs.declared.calls.Val.TheVariants.{Item as Held}
 use Rattle.lin_orders.specs.declared.placed.Placed.{Placed}
 use Rattle.lin_orders.specs.ConfigurationLaws.{with_event}
 use Rattle.lin_queues.specs.declared.elements.Element.{Element}
-use Rattle.lin_queues.specs.declared.members.Member.{Member}
+use Rattle.lin_queues.specs.declared.members.QueueMember.{QueueMember}
 use Rattle.lin_queues.specs.Chains.{IsLinked}
 use Rattle.lin_queues.specs.Gains.{AreGathered}
 use Rattle.lin_queues.specs.Gathering.{IsCovered, IsReturning}
@@ -21,5 +21,5 @@ abbrev pub invariant-loop-member : goal.invariant-loop-member
 invariant-loop-member l = record {
   gathered : AreGathered l.members l.open l.next (Finds l.elements l.open l.returned.dequeue l.returned.item l.returned.time);
   paying : (h : List Event) → AreOpen h l.open → AreDequeues h l.next.dequeues.items;
-  told : (functions : Item → Name → Bool) (h : List Event) (event : Event) (whole : List Event) (order : List Placed) → l.returned.time ≡ length h → IsLinked l.elements → ((i : ℕ) (x : Element) → slice_get l.elements i ≡ Some x → x.item ≡ l.returned.item → i < l.returned.end) → AreOpen (with_event h event) l.open → IsReturning functions h event l.returned.dequeue Dequeue (Value (Held l.returned.item)) whole order l.elements → (k : ℕ) (m : Member) → k < l.member-index → slice_get l.members k ≡ Some m → Told whole order (length h) l.elements (view_of m) → IsCovered whole order (length (with_event h event)) l.elements l.next.members.items l.next.is_full;
+  told : (functions : Item → Name → Bool) (h : List Event) (event : Event) (whole : List Event) (order : List Placed) → l.returned.time ≡ length h → IsLinked l.elements → ((i : ℕ) (x : Element) → slice_get l.elements i ≡ Some x → x.item ≡ l.returned.item → i < l.returned.end) → AreOpen (with_event h event) l.open → IsReturning functions h event l.returned.dequeue Dequeue (Value (Held l.returned.item)) whole order l.elements → (k : ℕ) (m : QueueMember) → k < l.member-index → slice_get l.members k ≡ Some m → Told whole order (length h) l.elements (view_of m) → IsCovered whole order (length (with_event h event)) l.elements l.next.members.items l.next.is_full;
 }

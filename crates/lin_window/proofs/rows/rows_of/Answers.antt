@@ -2,7 +2,7 @@ use Rattle.std.proofs.Common.{ℕ, ◌+◌, ◌<◌, List, [], ◌∷◌, ◌++�
 use Rattle.std.specs.List.{AllZip}
 use Rattle.std.proofs.lemmas.List.{take_more}
 use Rattle.lin_lists.specs.lemmas.Taken.{zip_push}
-use Rattle.lin_words.specs.declared.tables.Row.{Row}
+use Rattle.lin_words.specs.declared.tables.TableRow.{TableRow}
 use Rattle.lin_window.specs.Tables.{IsRow, told_of}
 use Rattle.lin_window.proofs.rows.rows_of.Goals as goal
 
@@ -14,5 +14,5 @@ loop-chosen-preserved c =
     let s = told_of c.args.stretch.now in
     let shown = c.args.shown.now in
     let i = c.loop-chosen.chosen-index in
-    subst (AllZip (IsRow s) (take (i + 1) shown)) (sym {A = List Row} c.in_ok-push.ensures.items)
+    subst (AllZip (IsRow s) (take (i + 1) shown)) (sym {A = List TableRow} c.in_ok-push.ensures.items)
     (zip_more (IsRow s) shown c.loop-chosen.rows.items i _ c.in_ok-row_of.field-0 c.loop-chosen-test.true c.loop-chosen.invariant c.in_ok-row_of.ensures)

@@ -1,6 +1,6 @@
 use Rattle.std.proofs.Common.{sym, ap, ◌∙◌, subst}
 use Rattle.lin_orders.specs.ConfigurationLaws.{with_event}
-use Rattle.lin_queues.specs.declared.opens.Open.{Open}
+use Rattle.lin_queues.specs.declared.opens.OpenCall.{OpenCall}
 use Rattle.lin_queues.specs.Opens.{AreOpen}
 use Rattle.lin_queues.specs.Reaching.{invoked}
 use Rattle.lin_queues.proofs.Going.{told_invoked}
@@ -10,7 +10,7 @@ use Rattle.lin_queues.proofs.debts.Debts.invoke.Goals as goal
 pub returns-clause-next : goal.returns-clause-next
 returns-clause-next c = λ is event body process functions h well_formed debts.
     let self = c.args.self.now in
-    let new : Open = record { process = c.args.process; place = self.reached; call = c.args.call } in
+    let new : OpenCall = record { process = c.args.process; place = self.reached; call = c.args.call } in
     record {
       reached = one_longer h event self.reached debts.reached;
       elements = elements_on h event self.elements debts.elements;

@@ -3,8 +3,8 @@ use Rattle.std.proofs.lemmas.List.{length-append}
 use Rattle.std.proofs.lemmas.List.Elements.{Contains-push, Contains-push_cases}
 use Rattle.std.proofs.lemmas.Option.{slice_get_within}
 use Rattle.lin_queues.specs.declared.elements.Element.{Element}
-use Rattle.lin_queues.specs.declared.members.Member.{Member}
-use Rattle.lin_queues.specs.declared.opens.Open.{Open}
+use Rattle.lin_queues.specs.declared.members.QueueMember.{QueueMember}
+use Rattle.lin_queues.specs.declared.opens.OpenCall.{OpenCall}
 use Rattle.lin_queues.specs.Members.{AreEnqueues, Told, at_first, view_of}
 use Rattle.lin_queues.specs.Reaching.{Reached, at_start}
 use Rattle.lin_queues.specs.Gathering.{HaveReturned}
@@ -15,10 +15,10 @@ use Rattle.lin_queues.proofs.debts.Debts.new.Goals as goal
 no_element : (i : ℕ) (x : Element) → slice_get [] i ≡ Some x → ⊥
 no_element i x at = (let l = slice_get_within [] i x at in omega arith)
 
-no_open : (i : ℕ) (x : Open) → slice_get [] i ≡ Some x → ⊥
+no_open : (i : ℕ) (x : OpenCall) → slice_get [] i ≡ Some x → ⊥
 no_open i x at = (let l = slice_get_within [] i x at in omega arith)
 
-only : {x : Member} (m : Member) → Contains (x ∷ []) m → m ≡ x
+only : {x : QueueMember} (m : QueueMember) → Contains (x ∷ []) m → m ≡ x
 only {x} m there = elim (Contains-push_cases [] x m there) [
   | inl none ↦ absurd (let l = none.1 in omega arith)
   | inr same ↦ sym same

@@ -1,14 +1,14 @@
 use Rattle.std.proofs.Common.{get_or, ap, sym, subst, refl, inl, inr, Contains, ◌∙◌, ◌≡◌, ℕ, suc, List, Some, slice_get, arith}
 use Rattle.std.proofs.lemmas.Bool.{cases_eq, cases_lt, false≢true}
 use Rattle.std.proofs.lemmas.Option.{slice_get_within, get_or_from_slice_get}
-use Rattle.lin_queues.specs.declared.members.Member.{Member}
+use Rattle.lin_queues.specs.declared.members.QueueMember.{QueueMember}
 use Rattle.lin_queues.specs.Members.{IsAtLeast, view_of}
 use Rattle.lin_queues.proofs.Lists.{contains_from_get, get_from_contains, get_removed, get_remove_cases}
 use Rattle.std.specs.List.{remove}
 use Rattle.lin_queues.specs.Gains.{AreApart}
 use Rattle.lin_queues.proofs.gathered.Gathered.drop_worse.Goals as goal
 
-removed_in : (xs : List Member) (i : ℕ) (m : Member) → Contains (remove xs i) m → Contains xs m
+removed_in : (xs : List QueueMember) (i : ℕ) (m : QueueMember) → Contains (remove xs i) m → Contains xs m
 removed_in xs i m there =
     let place = get_from_contains (remove xs i) m there in
     elim (get_remove_cases xs i place.0 m place.1) [
@@ -16,7 +16,7 @@ removed_in xs i m there =
       | inr after ↦ contains_from_get xs (suc place.0) m after.1
     ]
 
-apart_without : (xs : List Member) (i : ℕ) → AreApart xs → AreApart (remove xs i)
+apart_without : (xs : List QueueMember) (i : ℕ) → AreApart xs → AreApart (remove xs i)
 apart_without xs i apart j k m n at_j at_k differ least = elim (get_remove_cases xs i j m at_j) [
   | inl before ↦ elim (get_remove_cases xs i k n at_k) [
     | inl first ↦ apart j k m n before.1 first.1 differ least
@@ -40,7 +40,7 @@ loop-at-preserved-then-is_at_least c = record {
               inl (subst (λ l. Contains l m) (sym c.remove.ensures.items) (contains_from_get _ left.0 m left.1)))
           | inl same ↦ (
               let is = c.index.ensures ∙ ap (λ k. get_or c.loop-at.self.members.items k c.index.result.now) (sym same) ∙ get_or_from_slice_get c.loop-at.self.members.items place.0 m c.index.result.now place.1 in
-              inr (subst (λ (x : Member). IsAtLeast (view_of c.args.member.now) (view_of x)) is (c.if-is_at_least.ensures.0 refl)))
+              inr (subst (λ (x : QueueMember). IsAtLeast (view_of c.args.member.now) (view_of x)) is (c.if-is_at_least.ensures.0 refl)))
         ]
   ];
   left = λ m there.
@@ -65,7 +65,7 @@ loop-at-preserved c = record {
     | inr later ↦
         let same : k ≡ c.loop-at.at = omega arith in
         let is = c.index.ensures ∙ ap (λ i. get_or c.loop-at.self.members.items i c.index.result.now) (sym same) ∙ get_or_from_slice_get c.loop-at.self.members.items k m c.index.result.now at in
-        false≢true (sym c.if-is_at_least.false ∙ c.is_at_least.ensures.1 (subst (λ (x : Member). IsAtLeast (view_of c.args.member.now) (view_of x)) (sym is) least))
+        false≢true (sym c.if-is_at_least.false ∙ c.is_at_least.ensures.1 (subst (λ (x : QueueMember). IsAtLeast (view_of c.args.member.now) (view_of x)) (sym is) least))
   ];
   full = c.loop-at.invariant.full;
   dequeues = c.loop-at.invariant.dequeues;

@@ -4,21 +4,21 @@ use Rattle.lin_queues.specs.Members.{AreUnpaid, IsAtLeast, view_of}
 use Rattle.lin_queues.proofs.Telling.{told_at_least}
 use Rattle.std.proofs.lemmas.Bool.{false≢true, ltb-true}
 use Rattle.lin_lists.specs.lemmas.Lists.{get_cases}
-use Rattle.lin_queues.specs.declared.members.Member.{Member}
+use Rattle.lin_queues.specs.declared.members.QueueMember.{QueueMember}
 use Rattle.lin_queues.specs.Gains.{AreApart}
 use Rattle.lin_queues.proofs.Lists.{contains_from_get}
 use Rattle.lin_queues.proofs.Gaining.{gains_none}
 use Rattle.lin_queues.proofs.gathered.Gathered.put_in.Goals as goal
 
-apart_more : (xs : List Member) (new : Member) → AreApart xs → ((m : Member) → Contains xs m → IsAtLeast (view_of m) (view_of new) → ⊥) → ((m : Member) → Contains xs m → IsAtLeast (view_of new) (view_of m) → ⊥)
+apart_more : (xs : List QueueMember) (new : QueueMember) → AreApart xs → ((m : QueueMember) → Contains xs m → IsAtLeast (view_of m) (view_of new) → ⊥) → ((m : QueueMember) → Contains xs m → IsAtLeast (view_of new) (view_of m) → ⊥)
     → AreApart (xs ++ new ∷ [])
 apart_more xs new apart not_better not_worse i j m n at_i at_j differ least = elim (get_cases xs new i m at_i) [
   | inl old ↦ elim (get_cases xs new j n at_j) [
     | inl other ↦ apart i j m n old other differ least
-    | inr last ↦ not_better m (contains_from_get xs i m old) (subst (λ (x : Member). IsAtLeast (view_of m) (view_of x)) (sym last.1) least)
+    | inr last ↦ not_better m (contains_from_get xs i m old) (subst (λ (x : QueueMember). IsAtLeast (view_of m) (view_of x)) (sym last.1) least)
   ]
   | inr last ↦ elim (get_cases xs new j n at_j) [
-    | inl other ↦ not_worse n (contains_from_get xs j n other) (subst (λ (x : Member). IsAtLeast (view_of x) (view_of n)) (sym last.1) least)
+    | inl other ↦ not_worse n (contains_from_get xs j n other) (subst (λ (x : QueueMember). IsAtLeast (view_of x) (view_of n)) (sym last.1) least)
     | inr also ↦ differ (last.0 ∙ sym also.0)
   ]
 ]
@@ -52,7 +52,7 @@ pub returns-clause-gains : goal.returns-clause-gains
 returns-clause-gains c = λ payable. record {
   each = λ m there. elim (Contains-push_cases c.drop_worse.new.self.members.items c.args.member m (subst (λ l. Contains l m) c.in_ok-push.ensures.items there)) [
     | inl old ↦ inl (c.drop_worse.ensures.left m old).0
-    | inr new ↦ inr (ap view_of (sym new), subst (λ (x : Member). AreUnpaid x.debts.items c.args.self.now.dequeues.items → ⊥) new payable)
+    | inr new ↦ inr (ap view_of (sym new), subst (λ (x : QueueMember). AreUnpaid x.debts.items c.args.self.now.dequeues.items → ⊥) new payable)
   ];
   apart = λ apart. subst AreApart (sym c.in_ok-push.ensures.items) (apart_more c.drop_worse.new.self.members.items c.args.member (c.drop_worse.ensures.apart apart)
       (λ m there least. c.if-has_better.ensures.none refl m (c.drop_worse.ensures.left m there).0 least)

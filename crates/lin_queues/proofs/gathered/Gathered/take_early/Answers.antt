@@ -2,7 +2,7 @@ use Rattle.std.proofs.Common.{◌≡◌, get_or, subst, sym, ap, ◌∙◌, arit
 use Rattle.std.proofs.lemmas.Bool.{cases_lt}
 use Rattle.std.proofs.lemmas.Option.{slice_get_within, get_or_from_slice_get, slice_get-get_or}
 use Rattle.lin_events.specs.declared.calls.Call.TheVariants.{Read, Enqueue}
-use Rattle.lin_queues.specs.declared.opens.Open.{Open}
+use Rattle.lin_queues.specs.declared.opens.OpenCall.{OpenCall}
 use Rattle.lin_queues.specs.Gathering.{MayTakeEarly}
 use Rattle.lin_queues.specs.Members.{view_of}
 use Rattle.lin_queues.specs.Reaching.{TakesEarly}
@@ -17,8 +17,8 @@ loop-operation-preserved c = record {
     | inr later ↦
         let same : k ≡ c.loop-operation.operation-index = omega arith in
         let here = sym (ap (λ i. get_or c.args.open.now i (record { process = 0; place = 0; call = Read })) (sym same) ∙ get_or_from_slice_get c.args.open.now k o (record { process = 0; place = 0; call = Read }) at) in
-        c.in_ok-take_early_if.ensures.told h whole order (subst (λ (p : Open). p.call ≡ Enqueue c.args.returned.item) here call) is_whole (subst (λ l. AreDequeues h l.items) (sym c.loop-operation.invariant.dequeues) paying) enqueues
-        (subst (λ (p : Open). MayTakeEarly whole order (length h) c.args.elements.now (view_of c.args.member.now) c.args.returned.time p.place) here may)
+        c.in_ok-take_early_if.ensures.told h whole order (subst (λ (p : OpenCall). p.call ≡ Enqueue c.args.returned.item) here call) is_whole (subst (λ l. AreDequeues h l.items) (sym c.loop-operation.invariant.dequeues) paying) enqueues
+        (subst (λ (p : OpenCall). MayTakeEarly whole order (length h) c.args.elements.now (view_of c.args.member.now) c.args.returned.time p.place) here may)
   ];
   kept = λ whole order n all covered. c.in_ok-take_early_if.ensures.kept whole order n all (c.loop-operation.invariant.kept whole order n all covered);
   gains = gains_then c.args.self.now c.loop-operation.self c.take_early_if.new.self (TakesEarly c.args.elements.now c.args.open.now c.args.returned.item c.args.returned.time (view_of c.args.member.now)) c.loop-operation.invariant.dequeues c.loop-operation.invariant.gains (c.in_ok-take_early_if.ensures.gains c.args.open.now c.loop-operation.operation-index (slice_get-get_or c.args.open.now c.loop-operation.operation-index (record { process = 0; place = 0; call = Read }) c.loop-operation-test.true));

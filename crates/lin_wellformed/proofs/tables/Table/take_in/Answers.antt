@@ -1,5 +1,5 @@
 use Rattle.std.proofs.Common.{◌≡◌, ◌≤◌, [], ◌∷◌, ◌++◌, ap, ◌∙◌, subst, unwrap_or}
-use Rattle.lin_events.specs.declared.shapes.Status.TheVariants.{Idle}
+use Rattle.lin_events.specs.declared.shapes.ProcessStatus.TheVariants.{Idle}
 use Rattle.lin_wellformed.specs.declared.tables.Change.{Change}
 use Rattle.lin_wellformed.specs.Tables.{Statuses, count_in, status_at}
 use Rattle.lin_wellformed.proofs.TableLemmas.{same_before, status_put, status_put_back}
