@@ -8,9 +8,9 @@ use Rattle.lin_events.specs.WellFormed.{IsShape, IsWellFormed}
 use Rattle.lin_objects.specs.declared.kinds.Kind.{Kind}
 use Rattle.lin_objects.specs.Kinds.{kind_of, functions_of}
 use Rattle.lin_objects.specs.Steps.{Step, start}
-use Rattle.lin_orders.specs.Linearizable.{IsLegalOrder, IsLegalOrderFor, IsLinearizable, IsLinearizableFor}
-use Rattle.lin_orders.specs.Parts.{part}
-use Rattle.lin_orders.specs.Configurations.{IsOver}
+use Rattle.lin_order.specs.Linearizable.{IsLegalOrder, IsLegalOrderFor, IsLinearizable, IsLinearizableFor}
+use Rattle.lin_order.specs.Parts.{part}
+use Rattle.lin_order.specs.Configurations.{IsOver}
 use Rattle.lin_answers.specs.declared.answers.Answer.{Answer}
 use Rattle.lin_answers.specs.declared.answers.Answer.TheVariants.{IllFormed, Yes, No, Undecided}
 use Rattle.lin_answers.specs.declared.answers.Verdict.{Verdict}

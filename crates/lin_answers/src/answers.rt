@@ -2,7 +2,7 @@
 ghost use Rattle.lin_answers.specs.Answers.{AnswersAreVerdicts};
 
 use lin_events::{Cause, Item};
-use lin_orders::Placed;
+use lin_order::Placed;
 
 /// What a question is about.
 #[derive(Clone, Copy, Debug, PartialEq, Eq)]

@@ -10,8 +10,8 @@ use Rattle.lin_events.specs.declared.events.Event.{Event}
 use Rattle.lin_objects.specs.declared.kinds.Kind.{Kind}
 use Rattle.lin_objects.specs.declared.kinds.Kind.TheVariants.{Register, CasRegister, Fifo, Bag, Set, Mutex}
 use Rattle.lin_events.specs.Operations.{IsOk}
-use Rattle.lin_orders.specs.Orders.{IsCall}
-use Rattle.lin_orders.specs.lemmas.OneEnd.{one_call, one_ok}
+use Rattle.lin_order.specs.Orders.{IsCall}
+use Rattle.lin_order.specs.lemmas.OneEnd.{one_call, one_ok}
 use Rattle.lin_certificates.specs.Certificates.{Certifies, Needed, TookOut}
 use Rattle.lin_certificates.specs.Words.{Returned}
 use Rattle.lin_certificates.specs.declared.certificate.Certificate.{Certificate}

@@ -1,6 +1,6 @@
 //! A search for a certificate. Whatever it finds is tested; it finds one wherever the failing operation alone decides it.
 ghost use Rattle.std.specs.Prelude.{IfNone, IfOk, IfSome};
-ghost use Rattle.lin_orders.specs.Tables.{IsNextTable};
+ghost use Rattle.lin_order.specs.Tables.{IsNextTable};
 ghost use Rattle.lin_certificates.specs.Certificates.{Certifies};
 ghost use Rattle.lin_certificates.specs.declared.certificate.Certificate.{Certificate as CertificateOf};
 ghost use Rattle.lin_candidates.specs.OwnCertificates.{IsOwn};
@@ -11,7 +11,7 @@ use crate::own::{own_certificate, tested};
 use lin_certificates::Certificate;
 use lin_events::{Event, OutOfMemory};
 use lin_objects::Kind;
-use lin_orders::ends_of;
+use lin_order::ends_of;
 use std::alloc::Global;
 
 /// How many operations are looked at beside the failing one, the last invoked first.

@@ -2,7 +2,7 @@
 ghost use Rattle.std.specs.Prelude.{◌≡◌, IfNone, IfSome, MatchOption, Some};
 ghost use Rattle.lin_events.specs.declared.items.Item.{Item as ItemOf};
 ghost use Rattle.lin_events.specs.declared.calls.Val.{Val as ValOf};
-ghost use Rattle.lin_orders.specs.Tables.{IsNextTable};
+ghost use Rattle.lin_order.specs.Tables.{IsNextTable};
 ghost use Rattle.lin_certificates.specs.Certificates.{Certifies, Needed, TookOut};
 ghost use Rattle.lin_certificates.specs.Words.{IsOfAnswers, Needs};
 ghost use Rattle.lin_certificates.specs.declared.words.Answers.TheVariants as Answered;
@@ -13,7 +13,7 @@ ghost use Rattle.lin_candidates.specs.OwnCertificates.{IsOwn};
 use lin_certificates::{Certificate, holds};
 use lin_events::{Call, Event, Item, Reply, Val};
 use lin_objects::Kind;
-use lin_orders::{call_at, ok_end};
+use lin_order::{call_at, ok_end};
 
 /// The value that a register had to hold for the call to get this reply.
 fn needed_for(call: &Call, reply: &Reply) -> Option<Val>

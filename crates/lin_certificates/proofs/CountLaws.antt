@@ -12,17 +12,17 @@ use Rattle.lin_events.specs.declared.events.Event.{Event}
 use Rattle.lin_objects.specs.declared.kinds.Kind.{Kind}
 use Rattle.lin_objects.specs.declared.states.State.{State}
 use Rattle.lin_objects.specs.Steps.{Step, start}
-use Rattle.lin_orders.specs.declared.placed.Placed.{Placed}
-use Rattle.lin_orders.specs.Linearizable.{IsLegalOrderAs, Runs}
-use Rattle.lin_orders.specs.Orders.{IsCall}
-use Rattle.lin_orders.specs.lemmas.OneEnd.{one_call}
-use Rattle.lin_orders.specs.lemmas.Running.{runs_split}
-use Rattle.lin_failures.specs.Adding.{Adds}
-use Rattle.lin_failures.specs.QueueConflicts.{Takes}
-use Rattle.lin_failures.specs.lemmas.Conflicting.{parted}
-use Rattle.lin_failures.specs.lemmas.Counting.{Changes, Puts, TakesOut, chosen_least, chosen_most, counted}
-use Rattle.lin_failures.specs.lemmas.QueueConflicting.{takes_call}
-use Rattle.lin_failures.specs.lemmas.Standing.{At, at_here, at_left, at_within, left_at, not_failed, ok_there, one_place, place_of, reply_there, stands_ahead, stands_in}
+use Rattle.lin_order.specs.declared.placed.Placed.{Placed}
+use Rattle.lin_order.specs.Linearizable.{IsLegalOrderAs, Runs}
+use Rattle.lin_order.specs.Orders.{IsCall}
+use Rattle.lin_order.specs.lemmas.OneEnd.{one_call}
+use Rattle.lin_order.specs.lemmas.Running.{runs_split}
+use Rattle.lin_certificates.specs.Adding.{Adds}
+use Rattle.lin_certificates.specs.QueueConflicts.{Takes}
+use Rattle.lin_certificates.specs.lemmas.Conflicting.{parted}
+use Rattle.lin_certificates.specs.lemmas.Counting.{Changes, Puts, TakesOut, chosen_least, chosen_most, counted}
+use Rattle.lin_certificates.specs.lemmas.QueueConflicting.{takes_call}
+use Rattle.lin_certificates.specs.lemmas.Standing.{At, at_here, at_left, at_within, left_at, not_failed, ok_there, one_place, place_of, reply_there, stands_ahead, stands_in}
 use Rattle.lin_certificates.specs.Words.{MayTakeAhead}
 use Rattle.lin_certificates.specs.Certificates.{IsRemaining, PutsBefore}
 use Rattle.lin_certificates.proofs.Numbers.{at_least, at_most}

@@ -9,11 +9,11 @@ use Rattle.lin_events.specs.Operations.{IsOk}
 use Rattle.lin_objects.specs.declared.kinds.Kind.{Kind}
 use Rattle.lin_objects.specs.declared.states.State.{State}
 use Rattle.lin_objects.specs.Steps.{Step, start}
-use Rattle.lin_orders.specs.declared.placed.Placed.{Placed}
-use Rattle.lin_orders.specs.Linearizable.{IsLegalOrderAs, Runs}
-use Rattle.lin_orders.specs.Orders.{IsBefore}
-use Rattle.lin_orders.specs.lemmas.Running.{runs_split}
-use Rattle.lin_failures.specs.lemmas.Counting.{first_apart, pairs_rest}
+use Rattle.lin_order.specs.declared.placed.Placed.{Placed}
+use Rattle.lin_order.specs.Linearizable.{IsLegalOrderAs, Runs}
+use Rattle.lin_order.specs.Orders.{IsBefore}
+use Rattle.lin_order.specs.lemmas.Running.{runs_split}
+use Rattle.lin_certificates.specs.lemmas.Counting.{first_apart, pairs_rest}
 
 pairs_right : {A : Type 0} (R : A → A → Type 0) (xs ys : List A) → AllPairs R (xs ++ ys) → AllPairs R ys
 pairs_right R [] ys all = all

@@ -14,18 +14,18 @@ use Rattle.lin_objects.specs.declared.kinds.Kind.TheVariants.{Fifo}
 use Rattle.lin_objects.specs.declared.states.State.{State}
 use Rattle.lin_objects.specs.declared.states.State.TheVariants.{Queue}
 use Rattle.lin_objects.specs.Steps.{Step, start}
-use Rattle.lin_orders.specs.declared.placed.Placed.{Placed}
-use Rattle.lin_orders.specs.Linearizable.{IsLegalOrderAs, Runs}
-use Rattle.lin_orders.specs.Orders.{IsBefore, IsCall}
-use Rattle.lin_orders.specs.lemmas.OneEnd.{one_call}
-use Rattle.lin_orders.specs.lemmas.Running.{runs_split}
-use Rattle.lin_failures.specs.Adding.{Adds}
-use Rattle.lin_failures.specs.QueueConflicts.{Takes}
-use Rattle.lin_failures.specs.lemmas.BagConflicting.{in_decides, one, one_in, one_out, times}
-use Rattle.lin_failures.specs.lemmas.Conflicting.{parted}
-use Rattle.lin_failures.specs.lemmas.Counting.{Chosen, Puts, TakesOut, chosen_empty, chosen_least, chosen_most, chosen_one, chosen_other, no_more, pairs_rest}
-use Rattle.lin_failures.specs.lemmas.QueueConflicting.{one_alone}
-use Rattle.lin_failures.specs.lemmas.Standing.{At, at_here, at_left, at_within, left_at, not_failed, ok_there, one_place, place_of, stands_ahead, stands_in}
+use Rattle.lin_order.specs.declared.placed.Placed.{Placed}
+use Rattle.lin_order.specs.Linearizable.{IsLegalOrderAs, Runs}
+use Rattle.lin_order.specs.Orders.{IsBefore, IsCall}
+use Rattle.lin_order.specs.lemmas.OneEnd.{one_call}
+use Rattle.lin_order.specs.lemmas.Running.{runs_split}
+use Rattle.lin_certificates.specs.Adding.{Adds}
+use Rattle.lin_certificates.specs.QueueConflicts.{Takes}
+use Rattle.lin_certificates.specs.lemmas.BagConflicting.{in_decides, one, one_in, one_out, times}
+use Rattle.lin_certificates.specs.lemmas.Conflicting.{parted}
+use Rattle.lin_certificates.specs.lemmas.Counting.{Chosen, Puts, TakesOut, chosen_empty, chosen_least, chosen_most, chosen_one, chosen_other, no_more, pairs_rest}
+use Rattle.lin_certificates.specs.lemmas.QueueConflicting.{one_alone}
+use Rattle.lin_certificates.specs.lemmas.Standing.{At, at_here, at_left, at_within, left_at, not_failed, ok_there, one_place, place_of, stands_ahead, stands_in}
 use Rattle.lin_certificates.specs.Words.{MayTakeAhead}
 use Rattle.lin_certificates.specs.Certificates.{CanAddBelow, IsPreceded, PutsBefore, TookBefore}
 use Rattle.lin_certificates.proofs.CountLaws.{all_added, is_added, takes_ahead}

@@ -9,16 +9,16 @@ use Rattle.lin_objects.specs.declared.kinds.Kind.TheVariants.{Mutex}
 use Rattle.lin_objects.specs.declared.states.State.{State}
 use Rattle.lin_objects.specs.declared.states.State.TheVariants.{Held}
 use Rattle.lin_objects.specs.Steps.{Step, start}
-use Rattle.lin_orders.specs.declared.placed.Placed.{Placed}
-use Rattle.lin_orders.specs.Linearizable.{IsLegalOrderAs, Runs}
-use Rattle.lin_orders.specs.Orders.{IsCall}
-use Rattle.lin_orders.specs.lemmas.OneEnd.{one_call}
-use Rattle.lin_failures.specs.lemmas.Counting.{Chosen, chosen_empty, chosen_least, chosen_most, chosen_one, chosen_other, pairs_rest}
+use Rattle.lin_order.specs.declared.placed.Placed.{Placed}
+use Rattle.lin_order.specs.Linearizable.{IsLegalOrderAs, Runs}
+use Rattle.lin_order.specs.Orders.{IsCall}
+use Rattle.lin_order.specs.lemmas.OneEnd.{one_call}
+use Rattle.lin_certificates.specs.lemmas.Counting.{Chosen, chosen_empty, chosen_least, chosen_most, chosen_one, chosen_other, pairs_rest}
 use Rattle.lin_certificates.specs.Words.{IsOfCalls, Returned}
 use Rattle.lin_certificates.specs.declared.words.Calls.{Calls}
 use Rattle.lin_certificates.specs.declared.words.Calls.TheVariants.{Acquires, Releases}
 use Rattle.lin_certificates.specs.Certificates.{CanCall, CanWithin, DidCall, DidWithin, IsCounted, IsMoreWithin, IsTwice, IsTwiceIn, IsWithin, spare_release}
-use Rattle.lin_failures.specs.lemmas.Standing.{At, not_failed, ok_there, place_of, stands_ahead}
+use Rattle.lin_certificates.specs.lemmas.Standing.{At, not_failed, ok_there, place_of, stands_ahead}
 use Rattle.lin_certificates.proofs.Cutting.{Segment, segment}
 use Rattle.lin_certificates.proofs.Numbers.{at_least, at_most}
 

@@ -10,10 +10,10 @@ use Rattle.lin_events.specs.declared.events.Body.TheVariants.{Invoke, Ok, Fail, 
 use Rattle.lin_events.specs.declared.events.Event.{Event}
 use Rattle.lin_events.specs.Operations.{IsEnd, IsFailed, IsOf, IsOk}
 use Rattle.lin_events.specs.lemmas.Deciding.{first_between}
-use Rattle.lin_orders.specs.Orders.{IsCall}
-use Rattle.lin_failures.specs.Adding.{IsNotAddedBy}
+use Rattle.lin_order.specs.Orders.{IsCall}
+use Rattle.lin_certificates.specs.Adding.{IsNotAddedBy}
 use Rattle.lin_certificates.specs.Certificates.{CanAdd}
-use Rattle.lin_orders.specs.lemmas.OneEnd.{one_ending, one_process}
+use Rattle.lin_order.specs.lemmas.OneEnd.{one_ending, one_process}
 
 -- it is ok, failed, or open
 abbrev pub Outcome : List Event → ℕ → Type 0

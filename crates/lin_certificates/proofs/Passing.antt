@@ -7,7 +7,7 @@ use Rattle.std.proofs.lemmas.List.Kept.{AllPairs-cons}
 use Rattle.lin_lists.specs.lemmas.Elements.{all_of, first_or_rest}
 use Rattle.lin_events.specs.declared.calls.Call.{Call}
 use Rattle.lin_events.specs.declared.events.Event.{Event}
-use Rattle.lin_orders.specs.Orders.{IsCall}
+use Rattle.lin_order.specs.Orders.{IsCall}
 use Rattle.lin_certificates.specs.Words.{Exactly, IsLastOf, IsOfWhich}
 use Rattle.lin_certificates.specs.declared.words.Which.{Which}
 use Rattle.lin_certificates.specs.declared.words.Which.TheVariants.{Counts, CountsBut, CountsBelow, Returned, ReturnedBut, ReturnedBefore, ReturnedWithin, CountsWithin, OpenBut, TakesAhead}

@@ -15,24 +15,24 @@ use Rattle.lin_objects.specs.declared.kinds.Kind.TheVariants.{Fifo, Bag}
 use Rattle.lin_objects.specs.declared.states.State.{State}
 use Rattle.lin_objects.specs.declared.states.State.TheVariants.{Queue}
 use Rattle.lin_objects.specs.Steps.{Step, start}
-use Rattle.lin_orders.specs.declared.placed.Placed.{Placed}
-use Rattle.lin_orders.specs.Linearizable.{IsLegalOrderAs, Runs}
-use Rattle.lin_orders.specs.Orders.{IsBefore, IsCall}
-use Rattle.lin_orders.specs.lemmas.OneEnd.{one_call, one_ok}
-use Rattle.lin_orders.specs.lemmas.Running.{runs_split}
-use Rattle.lin_failures.specs.Adding.{Adds, IsAddedOnce}
-use Rattle.lin_failures.specs.BagConflicts.{AtLeast, Took}
-use Rattle.lin_failures.specs.QueueConflicts.{IsNotTakenBy, IsPassing, PutAt, Takes}
-use Rattle.lin_failures.specs.lemmas.BagConflicting.{changes, empties, in_decides, inside, no_item, no_put, no_take, one, one_in, one_out, times}
-use Rattle.lin_failures.specs.lemmas.Conflicting.{parted}
-use Rattle.lin_failures.specs.lemmas.Counting.{Changes, Puts, TakesOut, chosen_least, chosen_most, counted, overtaken}
-use Rattle.lin_failures.specs.lemmas.QueueConflicting.{one_alone, passed_later, passed_over, takes_call}
+use Rattle.lin_order.specs.declared.placed.Placed.{Placed}
+use Rattle.lin_order.specs.Linearizable.{IsLegalOrderAs, Runs}
+use Rattle.lin_order.specs.Orders.{IsBefore, IsCall}
+use Rattle.lin_order.specs.lemmas.OneEnd.{one_call, one_ok}
+use Rattle.lin_order.specs.lemmas.Running.{runs_split}
+use Rattle.lin_certificates.specs.Adding.{Adds, IsAddedOnce}
+use Rattle.lin_certificates.specs.BagConflicts.{AtLeast, Took}
+use Rattle.lin_certificates.specs.QueueConflicts.{IsNotTakenBy, IsPassing, PutAt, Takes}
+use Rattle.lin_certificates.specs.lemmas.BagConflicting.{changes, empties, in_decides, inside, no_item, no_put, no_take, one, one_in, one_out, times}
+use Rattle.lin_certificates.specs.lemmas.Conflicting.{parted}
+use Rattle.lin_certificates.specs.lemmas.Counting.{Changes, Puts, TakesOut, chosen_least, chosen_most, counted, overtaken}
+use Rattle.lin_certificates.specs.lemmas.QueueConflicting.{one_alone, passed_later, passed_over, takes_call}
 use Rattle.lin_certificates.specs.Words.{Exactly, Returned, StaysOpen}
 use Rattle.lin_certificates.specs.Certificates.{CanAdd, IsInside, IsPassed, IsRemaining, IsTaken, Stays, TookOut}
 use Rattle.lin_certificates.proofs.CountLaws.{remaining_of}
 use Rattle.lin_certificates.proofs.Numbers.{the_one}
 use Rattle.lin_certificates.proofs.Outcomes.{not_added, outcome}
-use Rattle.lin_failures.specs.lemmas.Standing.{At, at_here, at_left, at_within, left_at, not_failed, ok_there, one_place, place_of, reply_there, stands_ahead, stands_in}
+use Rattle.lin_certificates.specs.lemmas.Standing.{At, at_here, at_left, at_within, left_at, not_failed, ok_there, one_place, place_of, reply_there, stands_ahead, stands_in}
 
 -- how many of the items wait in the queue
 abbrev waiting : State → List Item → ℕ

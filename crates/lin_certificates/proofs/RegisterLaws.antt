@@ -11,19 +11,19 @@ use Rattle.lin_events.specs.declared.calls.Val.TheVariants.{Nil, Item as Held}
 use Rattle.lin_events.specs.declared.events.Event.{Event}
 use Rattle.lin_objects.specs.declared.kinds.Kind.{Kind}
 use Rattle.lin_objects.specs.Steps.{Step, start}
-use Rattle.lin_orders.specs.declared.placed.Placed.{Placed}
-use Rattle.lin_orders.specs.Linearizable.{IsLegalOrderAs}
-use Rattle.lin_orders.specs.Orders.{IsBefore, IsCall}
-use Rattle.lin_orders.specs.lemmas.OneEnd.{one_call}
-use Rattle.lin_failures.specs.Conflicts.{IsRegister, Leaves}
-use Rattle.lin_failures.specs.Overwriting as overwriting
-use Rattle.lin_failures.specs.lemmas.Conflicting.{found}
-use Rattle.lin_failures.specs.lemmas.Overwriting.{NoneAhead, Seat, UpdatesAt, another, one_value, seat, updates_at}
+use Rattle.lin_order.specs.declared.placed.Placed.{Placed}
+use Rattle.lin_order.specs.Linearizable.{IsLegalOrderAs}
+use Rattle.lin_order.specs.Orders.{IsBefore, IsCall}
+use Rattle.lin_order.specs.lemmas.OneEnd.{one_call}
+use Rattle.lin_certificates.specs.Conflicts.{IsRegister, Leaves}
+use Rattle.lin_certificates.specs.Overwriting as overwriting
+use Rattle.lin_certificates.specs.lemmas.Conflicting.{found}
+use Rattle.lin_certificates.specs.lemmas.Overwriting.{NoneAhead, Seat, UpdatesAt, another, one_value, seat, updates_at}
 use Rattle.lin_certificates.specs.Words.{Gives, Needs, Returned}
 use Rattle.lin_certificates.specs.Certificates.{AreCrossed, CanLeave, HasSource, IsLeftOnce, IsOverwritten, IsUnwritten, Overwrites, Touched, Touches}
 use Rattle.lin_certificates.specs.declared.words.ReadSort.TheVariants as Sorted
 use Rattle.lin_certificates.proofs.Numbers.{the_one}
-use Rattle.lin_failures.specs.lemmas.Standing.{At, not_failed, ok_there, one_place, stands_ahead, step_there}
+use Rattle.lin_certificates.specs.lemmas.Standing.{At, not_failed, ok_there, one_place, stands_ahead, step_there}
 
 -- what an operation needs, in the words of overwritten values
 needs_there : (call : Call) (reply : Reply) (v : Val) → Needs call reply v → overwriting.Needs call reply v

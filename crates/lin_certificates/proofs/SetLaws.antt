@@ -10,17 +10,17 @@ use Rattle.lin_objects.specs.declared.kinds.Kind.TheVariants.{Set}
 use Rattle.lin_objects.specs.declared.states.State.{State}
 use Rattle.lin_objects.specs.declared.states.State.TheVariants.{Members}
 use Rattle.lin_objects.specs.Steps.{Step, start}
-use Rattle.lin_orders.specs.declared.placed.Placed.{Placed}
-use Rattle.lin_orders.specs.Linearizable.{IsLegalOrderAs}
-use Rattle.lin_orders.specs.Orders.{IsBefore}
-use Rattle.lin_orders.specs.lemmas.OneEnd.{one_call, one_ok}
-use Rattle.lin_failures.specs.SetConflicts.{FoundAt, HadAt}
-use Rattle.lin_failures.specs.lemmas.SetConflicting.{ahead_of, apart, lost, unadded}
+use Rattle.lin_order.specs.declared.placed.Placed.{Placed}
+use Rattle.lin_order.specs.Linearizable.{IsLegalOrderAs}
+use Rattle.lin_order.specs.Orders.{IsBefore}
+use Rattle.lin_order.specs.lemmas.OneEnd.{one_call, one_ok}
+use Rattle.lin_certificates.specs.SetConflicts.{FoundAt, HadAt}
+use Rattle.lin_certificates.specs.lemmas.SetConflicting.{ahead_of, apart, lost, unadded}
 use Rattle.lin_certificates.specs.Words.{Gives, Returned}
 use Rattle.lin_certificates.specs.Certificates.{AreSplit, Had, IsLate, IsLost, IsUnadded, Told}
 use Rattle.lin_certificates.specs.declared.words.ReadSort.TheVariants as Sorted
 use Rattle.lin_certificates.proofs.Outcomes.{not_added}
-use Rattle.lin_failures.specs.lemmas.Standing.{ok_there, step_there}
+use Rattle.lin_certificates.specs.lemmas.Standing.{ok_there, step_there}
 
 module _ (h : List Event) (order : List Placed) (legal : IsLegalOrderAs Set h order) where
   had_at : (n : Item) (at : ℕ) (is : Had h n at) → HadAt h at n is.1

@@ -13,14 +13,14 @@ use Rattle.lin_objects.specs.declared.kinds.Kind.TheVariants.{Register, CasRegis
 use Rattle.lin_objects.specs.declared.states.State.{State}
 use Rattle.lin_objects.specs.declared.states.State.TheVariants.{Value}
 use Rattle.lin_objects.specs.Steps.{Step, start}
-use Rattle.lin_orders.specs.declared.placed.Placed.{Placed}
-use Rattle.lin_orders.specs.Linearizable.{IsLegalOrderAs, Runs}
-use Rattle.lin_orders.specs.Orders.{IsCall}
-use Rattle.lin_orders.specs.lemmas.OneEnd.{one_call}
-use Rattle.lin_failures.specs.Conflicts.{IsRegister, Leaves}
-use Rattle.lin_failures.specs.lemmas.Conflicting.{found, no_other, set, wrote}
-use Rattle.lin_failures.specs.lemmas.Counting.{Chosen, chosen_empty, chosen_least, chosen_most, chosen_one, chosen_other, pairs_rest}
-use Rattle.lin_failures.specs.lemmas.Standing.{not_failed, place_of}
+use Rattle.lin_order.specs.declared.placed.Placed.{Placed}
+use Rattle.lin_order.specs.Linearizable.{IsLegalOrderAs, Runs}
+use Rattle.lin_order.specs.Orders.{IsCall}
+use Rattle.lin_order.specs.lemmas.OneEnd.{one_call}
+use Rattle.lin_certificates.specs.Conflicts.{IsRegister, Leaves}
+use Rattle.lin_certificates.specs.lemmas.Conflicting.{found, no_other, set, wrote}
+use Rattle.lin_certificates.specs.lemmas.Counting.{Chosen, chosen_empty, chosen_least, chosen_most, chosen_one, chosen_other, pairs_rest}
+use Rattle.lin_certificates.specs.lemmas.Standing.{not_failed, place_of}
 use Rattle.lin_certificates.specs.Words.{Spends}
 use Rattle.lin_certificates.specs.Certificates.{CanLeave, IsSpent, Spent, begun}
 use Rattle.lin_certificates.proofs.Numbers.{at_least, at_most}

@@ -8,11 +8,11 @@ use Rattle.lin_events.specs.declared.calls.Val.TheVariants.{Nil, Item as Held}
 use Rattle.lin_events.specs.declared.events.Event.{Event}
 use Rattle.lin_objects.specs.declared.kinds.Kind.{Kind}
 use Rattle.lin_objects.specs.declared.kinds.Kind.TheVariants.{Register, CasRegister, Fifo, Bag, Set, Mutex}
-use Rattle.lin_orders.specs.Orders.{IsBefore}
-use Rattle.lin_failures.specs.Adding.{Adds}
-use Rattle.lin_failures.specs.Conflicts.{Leaves}
-use Rattle.lin_failures.specs.QueueConflicts.{Takes}
-use Rattle.lin_failures.specs.SetConflicts.{Has, Lacks}
+use Rattle.lin_order.specs.Orders.{IsBefore}
+use Rattle.lin_certificates.specs.Adding.{Adds}
+use Rattle.lin_certificates.specs.Conflicts.{Leaves}
+use Rattle.lin_certificates.specs.QueueConflicts.{Takes}
+use Rattle.lin_certificates.specs.SetConflicts.{Has, Lacks}
 use Rattle.lin_certificates.specs.Words.{AddsSome, Counts, Exactly, Gives, IsOfCalls, MayTakeAhead, Needs, Returned, Spends, StaysOpen, Updates}
 use Rattle.lin_certificates.specs.declared.words.Calls.{Calls}
 use Rattle.lin_certificates.specs.declared.words.Calls.TheVariants.{Acquires, Releases}

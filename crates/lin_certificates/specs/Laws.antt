@@ -2,7 +2,7 @@
 use Rattle.std.specs.Prelude.{List}
 use Rattle.lin_events.specs.declared.events.Event.{Event}
 use Rattle.lin_objects.specs.declared.kinds.Kind.{Kind}
-use Rattle.lin_orders.specs.Linearizable.{IsLinearizableAs}
+use Rattle.lin_order.specs.Linearizable.{IsLinearizableAs}
 use Rattle.lin_certificates.specs.Certificates.{Certifies}
 use Rattle.lin_certificates.specs.declared.certificate.Certificate.{Certificate}
 

@@ -9,11 +9,11 @@ use Rattle.lin_events.specs.declared.calls.Val.{Val}
 use Rattle.lin_events.specs.declared.calls.Val.TheVariants.{Nil}
 use Rattle.lin_events.specs.declared.events.Event.{Event}
 use Rattle.lin_events.specs.Operations.{IsOk, IsFailed}
-use Rattle.lin_orders.specs.Orders.{IsBefore, IsCall}
-use Rattle.lin_failures.specs.Adding.{Adds}
-use Rattle.lin_failures.specs.Conflicts.{Leaves}
-use Rattle.lin_failures.specs.QueueConflicts.{Takes}
-use Rattle.lin_failures.specs.SetConflicts.{Has, Lacks}
+use Rattle.lin_order.specs.Orders.{IsBefore, IsCall}
+use Rattle.lin_certificates.specs.Adding.{Adds}
+use Rattle.lin_certificates.specs.Conflicts.{Leaves}
+use Rattle.lin_certificates.specs.QueueConflicts.{Takes}
+use Rattle.lin_certificates.specs.SetConflicts.{Has, Lacks}
 use Rattle.lin_certificates.specs.declared.words.Calls.{Calls}
 use Rattle.lin_certificates.specs.declared.words.Calls.TheVariants as Called
 use Rattle.lin_certificates.specs.declared.words.Answers.{Answers}

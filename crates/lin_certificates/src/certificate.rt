@@ -1,6 +1,6 @@
 //! Certificates, and whether one holds of a history.
 ghost use Rattle.std.specs.Prelude.{◌↔◌, IfOk, IsTrue};
-ghost use Rattle.lin_orders.specs.Tables.{IsNextTable};
+ghost use Rattle.lin_order.specs.Tables.{IsNextTable};
 ghost use Rattle.lin_certificates.specs.Certificates.{Certifies, CertifiesBag, CertifiesFifo, CertifiesMutex, CertifiesRegister, CertifiesSet};
 ghost use Rattle.lin_certificates.specs.Laws.{CertificatesExcludeOrders};
 
@@ -12,7 +12,7 @@ use crate::sets::{are_split, is_late, is_lost, is_unadded};
 use crate::words::{Answers, Calls, ReadSort, Which};
 use lin_events::{Event, Item, OutOfMemory, Val};
 use lin_objects::Kind;
-use lin_orders::ends_of;
+use lin_order::ends_of;
 use std::alloc::Global;
 
 /// Why the operations of an object have no legal order. Operations are named by the places of their invocations; the values that the form

@@ -1,6 +1,6 @@
 //! Certificates of locks.
 ghost use Rattle.std.specs.Prelude.{◌↔◌, ◌≡◌, IsTrue};
-ghost use Rattle.lin_orders.specs.Tables.{IsNextTable};
+ghost use Rattle.lin_order.specs.Tables.{IsNextTable};
 ghost use Rattle.lin_certificates.specs.Certificates.{IsCounted, IsMoreWithin, IsTwice, IsTwiceIn, IsWithin, spare_release as spare_of};
 
 use crate::operations::{comes_before, is_among};

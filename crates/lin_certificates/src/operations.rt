@@ -1,13 +1,13 @@
 //! Which operations a history has: those that count, that are ok, and that are open.
 ghost use Rattle.std.specs.Prelude.{◌↔◌, ◌<◌, ◌≤◌, IsTrue, length};
 ghost use Rattle.lin_events.specs.Operations.{IsFailed};
-ghost use Rattle.lin_orders.specs.Orders.{IsBefore};
-ghost use Rattle.lin_orders.specs.Tables.{IsNextTable};
+ghost use Rattle.lin_order.specs.Orders.{IsBefore};
+ghost use Rattle.lin_order.specs.Tables.{IsNextTable};
 ghost use Rattle.lin_certificates.specs.Words.{Counts, IsOfAnswers, IsOfCalls, IsOfWhich, MayTakeAhead, Returned, StaysOpen};
 
 use crate::words::{Answers, Calls, Which, is_of_answers, is_of_calls};
 use lin_events::Event;
-use lin_orders::{call_at, is_failed, ok_end};
+use lin_order::{call_at, is_failed, ok_end};
 
 /// Whether the operation at the place counts, and its call is of the sort.
 fn counts(events: &[Event], ends: &[Option<usize>], at: usize, calls: &Calls) -> bool

@@ -1,7 +1,7 @@
 //! Passes over the operations of a history.
 ghost use Rattle.std.specs.Prelude.{◌↔◌, ℕ, IsTrue, MatchOption};
-ghost use Rattle.lin_orders.specs.Orders.{IsBefore};
-ghost use Rattle.lin_orders.specs.Tables.{IsNextTable};
+ghost use Rattle.lin_order.specs.Orders.{IsBefore};
+ghost use Rattle.lin_order.specs.Tables.{IsNextTable};
 ghost use Rattle.lin_certificates.specs.Words.{Exactly, IsLastOf, IsOfWhich};
 
 use crate::operations::{comes_before, is_of_which};

@@ -1,6 +1,6 @@
 //! Certificates of queues, ordered or not.
 ghost use Rattle.std.specs.Prelude.{◌↔◌, ℕ, IsTrue};
-ghost use Rattle.lin_orders.specs.Tables.{IsNextTable};
+ghost use Rattle.lin_order.specs.Tables.{IsNextTable};
 ghost use Rattle.lin_certificates.specs.Certificates.{CanAdd, IsInside, IsPassed, IsPreceded, IsRemaining, IsTaken, Stays, TookOut};
 ghost use Rattle.lin_certificates.specs.Words.{Exactly};
 

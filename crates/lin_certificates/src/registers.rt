@@ -1,7 +1,7 @@
 //! Certificates of registers.
 ghost use Rattle.std.specs.Prelude.{◌↔◌, ◌≡◌, IsTrue};
 ghost use Rattle.lin_events.specs.declared.calls.Val.{Val as ValOf};
-ghost use Rattle.lin_orders.specs.Tables.{IsNextTable};
+ghost use Rattle.lin_order.specs.Tables.{IsNextTable};
 ghost use Rattle.lin_certificates.specs.Certificates.{AreCrossed, HasSource, IsAhead, IsLeftAhead, IsLeftOnce, IsOverwritten, IsSpent, IsUnwritten, Touches, begun as begun_with};
 
 use crate::operations::{comes_before, is_among};

@@ -1,6 +1,6 @@
 //! Certificates of sets.
 ghost use Rattle.std.specs.Prelude.{◌↔◌, IsTrue};
-ghost use Rattle.lin_orders.specs.Tables.{IsNextTable};
+ghost use Rattle.lin_order.specs.Tables.{IsNextTable};
 ghost use Rattle.lin_certificates.specs.Certificates.{AreSplit, IsLate, IsLost, IsUnadded, Told};
 
 use crate::operations::{comes_before, is_among};

@@ -1,9 +1,9 @@
 //! What operations do, in the words of which certificates are made.
 ghost use Rattle.std.specs.Prelude.{◌↔◌, ◌⊎◌, ◌≡◌, Contains, IsTrue, false};
-ghost use Rattle.lin_failures.specs.Adding.{Adds};
-ghost use Rattle.lin_failures.specs.Conflicts.{Leaves};
-ghost use Rattle.lin_failures.specs.QueueConflicts.{Takes};
-ghost use Rattle.lin_failures.specs.SetConflicts.{Has, Lacks};
+ghost use Rattle.lin_certificates.specs.Adding.{Adds};
+ghost use Rattle.lin_certificates.specs.Conflicts.{Leaves};
+ghost use Rattle.lin_certificates.specs.QueueConflicts.{Takes};
+ghost use Rattle.lin_certificates.specs.SetConflicts.{Has, Lacks};
 ghost use Rattle.lin_certificates.specs.Words.{AddsSome, Gives, IsOfAnswers, IsOfCalls, Needs, Spends, Updates};
 
 use lin_events::{Call, Item, Reply, Val};

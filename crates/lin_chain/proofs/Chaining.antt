@@ -5,9 +5,9 @@ use Rattle.std.proofs.lemmas.Bool.Decides.{Decides-eqb, Decides-ltb}
 use Rattle.std.proofs.lemmas.List.{take_all}
 use Rattle.lin_events.specs.declared.events.Event.{Event}
 use Rattle.lin_objects.specs.declared.kinds.Kind.{Kind}
-use Rattle.lin_orders.specs.declared.placed.Placed.{Placed}
-use Rattle.lin_orders.specs.Linearizable.{IsDeadAt, IsLegalOrderAs, IsLinearizableAs}
-use Rattle.lin_orders.specs.Parts.{events_at}
+use Rattle.lin_order.specs.declared.placed.Placed.{Placed}
+use Rattle.lin_order.specs.Linearizable.{IsDeadAt, IsLegalOrderAs, IsLinearizableAs}
+use Rattle.lin_order.specs.Parts.{events_at}
 use Rattle.lin_engines.specs.declared.ends.End.{End}
 use Rattle.lin_engines.specs.declared.ends.End.TheVariants.{Alive, Dead as DeadAt}
 use Rattle.lin_engines.specs.declared.exact.Exact.{Exact as ExactEngine}

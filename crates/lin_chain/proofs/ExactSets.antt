@@ -11,15 +11,15 @@ use Rattle.lin_events.specs.declared.events.Event.{Event}
 use Rattle.lin_events.specs.WellFormed.{IsWellFormed}
 use Rattle.lin_objects.specs.declared.kinds.Kind.{Kind}
 use Rattle.lin_objects.specs.Steps.{Step, start}
-use Rattle.lin_orders.specs.declared.placed.Placed.{Placed}
-use Rattle.lin_orders.specs.Configurations.{EndsIn}
+use Rattle.lin_order.specs.declared.placed.Placed.{Placed}
+use Rattle.lin_order.specs.Configurations.{EndsIn}
 use Rattle.lin_order.specs.Refutations.{AreConfigurations, Config, IsRefutation, lists_of}
 use Rattle.lin_order.specs.RefutationLaws.{ExactSetsRefute}
 use Rattle.lin_frontier.specs.Frontiers.{IsFrontier}
 use Rattle.lin_frontier.specs.Nodes.{Spells}
-use Rattle.lin_orders.specs.Linearizable.{IsLinearizableAs}
+use Rattle.lin_order.specs.Linearizable.{IsLinearizableAs}
 use Rattle.lin_lists.specs.lemmas.Lists.{get_cases}
-use Rattle.lin_open.specs.lemmas.Lists.{contains_from_get, get_from_contains}
+use Rattle.lin_frontier.specs.lemmas.Lists.{contains_from_get, get_from_contains}
 
 -- two answers that are one have one value
 pub ok_same : {T E : Type 0} {x y : T} {a b : Result T E} → a ≡ Ok x → b ≡ Ok y → a ≡ b → x ≡ y

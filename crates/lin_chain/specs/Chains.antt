@@ -2,7 +2,7 @@
 use Rattle.std.specs.Prelude.{◌≡◌, ◌≤◌, ◌<◌, ◌*◌, ◌/◌, ℕ, List, Option, true, false, None, Some, length, min, take, if◌then◌else◌, nat_eq, nat_lt}
 use Rattle.lin_events.specs.declared.events.Event.{Event}
 use Rattle.lin_objects.specs.declared.kinds.Kind.{Kind}
-use Rattle.lin_orders.specs.Linearizable.{IsDeadAt, IsLegalOrderAs}
+use Rattle.lin_order.specs.Linearizable.{IsDeadAt, IsLegalOrderAs}
 use Rattle.lin_engines.specs.declared.ends.End.{End}
 use Rattle.lin_engines.specs.declared.ends.End.TheVariants.{Alive, Dead, Over}
 use Rattle.lin_engines.specs.Exacts.{HasExact, IsExactLane, kind_of_exact, reach_of_exact}

@@ -2,15 +2,14 @@
 ghost use Rattle.std.specs.Prelude.{◌≡◌, ◌≤◌, ◌*◌, ◌/◌, ◌⊎◌, ℕ, List, None, Some, IfOk, IfSome, IsSome, length, min, take};
 ghost use Rattle.lin_events.specs.declared.events.Event.{Event as EventOf};
 ghost use Rattle.lin_objects.specs.declared.kinds.Kind.{Kind as KindOf};
-ghost use Rattle.lin_orders.specs.Linearizable.{IsLegalOrderAs};
+ghost use Rattle.lin_order.specs.Linearizable.{IsLegalOrderAs};
 ghost use Rattle.lin_engines.specs.declared.ends.End.{End as EndOf};
 ghost use Rattle.lin_engines.specs.Ends.{IsEndOf};
 ghost use Rattle.lin_chain.specs.Chains.{IsBeside, IsDecided, mark_beside, told_beside};
 
-use lin_engines::{End, Exact, Lane};
+use lin_engines::{End, Exact, Lane, Witness};
 use lin_events::OutOfMemory;
-use lin_orders::Placed;
-use lin_witness::Witness;
+use lin_order::Placed;
 use std::alloc::Global;
 
 /// The engine that stands beside an object's frontiers.

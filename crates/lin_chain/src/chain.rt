@@ -5,10 +5,10 @@ ghost use Rattle.lin_events.specs.declared.calls.Name.{Name as NameOf};
 ghost use Rattle.lin_events.specs.declared.events.Event.{Event as EventOf};
 ghost use Rattle.lin_events.specs.WellFormed.{IsWellFormed};
 ghost use Rattle.lin_objects.specs.Steps.{Step as StepOf, start as start_of};
-ghost use Rattle.lin_orders.specs.Parts.{events_at};
+ghost use Rattle.lin_order.specs.Parts.{events_at};
 ghost use Rattle.lin_order.specs.Refutations.{IsRefutation, sets_of};
-ghost use Rattle.lin_orders.specs.Configurations.{IsOver};
-ghost use Rattle.lin_orders.specs.Linearizable.{IsLegalOrderAs};
+ghost use Rattle.lin_order.specs.Configurations.{IsOver};
+ghost use Rattle.lin_order.specs.Linearizable.{IsLegalOrderAs};
 ghost use Rattle.lin_engines.specs.declared.ends.End.{End as EndOf};
 ghost use Rattle.lin_engines.specs.declared.says.Says.TheVariants as says;
 ghost use Rattle.lin_engines.specs.Ends.{IsEndOf};
@@ -21,8 +21,7 @@ use crate::refuting::refutation_of;
 use lin_engines::{End, Lane, Replay};
 use lin_events::{Event, Meter, OutOfMemory};
 use lin_objects::Kind;
-use lin_order::Refutation;
-use lin_orders::Placed;
+use lin_order::{Placed, Refutation};
 use std::alloc::Global;
 
 /// Why there is no refutation.

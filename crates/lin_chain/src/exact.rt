@@ -6,8 +6,8 @@ ghost use Rattle.lin_events.specs.declared.events.Event.{Event as EventOf};
 ghost use Rattle.lin_events.specs.Operations.{IsEvent};
 ghost use Rattle.lin_events.specs.WellFormed.{IsWellFormed};
 ghost use Rattle.lin_objects.specs.Steps.{Step as StepOf, start as start_of};
-ghost use Rattle.lin_orders.specs.Configurations.{IsOver};
-ghost use Rattle.lin_orders.specs.Linearizable.{IsLinearizableAs};
+ghost use Rattle.lin_order.specs.Configurations.{IsOver};
+ghost use Rattle.lin_order.specs.Linearizable.{IsLinearizableAs};
 ghost use Rattle.lin_chain.specs.Exact.{IsExact};
 
 use lin_events::{Event, Meter, OutOfMemory, beginnings_are_well_formed};

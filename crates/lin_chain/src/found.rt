@@ -2,13 +2,13 @@
 ghost use Rattle.std.specs.Prelude.{◌≡◌, ◌≤◌, ℕ, List, None, Some, IfOk, IfSome, IsSome, IsTrue, length, take};
 ghost use Rattle.lin_events.specs.declared.events.Event.{Event as EventOf};
 ghost use Rattle.lin_objects.specs.declared.kinds.Kind.{Kind as KindOf};
-ghost use Rattle.lin_orders.specs.Linearizable.{IsLegalOrderAs};
+ghost use Rattle.lin_order.specs.Linearizable.{IsLegalOrderAs};
 ghost use Rattle.lin_engines.specs.Ends.{IsEndOf};
 ghost use Rattle.lin_chain.specs.Chains.{IsDecided, IsFound, told_by_found};
 
 use lin_engines::{End, copied};
 use lin_events::OutOfMemory;
-use lin_orders::Placed;
+use lin_order::Placed;
 use std::alloc::Global;
 
 /// What searches found of the first events of an object, in places among its events.

@@ -7,18 +7,17 @@ ghost use Rattle.lin_events.specs.declared.events.Event.{Event as EventOf};
 ghost use Rattle.lin_events.specs.Operations.{IsEvent};
 ghost use Rattle.lin_events.specs.WellFormed.{IsWellFormed};
 ghost use Rattle.lin_objects.specs.Steps.{Step as StepOf, start as start_of};
-ghost use Rattle.lin_orders.specs.Parts.{events_at};
+ghost use Rattle.lin_order.specs.Parts.{events_at};
 ghost use Rattle.lin_order.specs.Refutations.{IsRefutation, sets_of};
-ghost use Rattle.lin_orders.specs.Configurations.{IsOver};
-ghost use Rattle.lin_orders.specs.Linearizable.{IsDeadAt, IsLinearizableAs};
+ghost use Rattle.lin_order.specs.Configurations.{IsOver};
+ghost use Rattle.lin_order.specs.Linearizable.{IsDeadAt, IsLinearizableAs};
 ghost use Rattle.lin_chain.specs.inner.Refuting.{AreBuilt};
 
 use crate::exact::{ExactRun, Taken};
 use lin_events::{Event, Meter, OutOfMemory, Reply, beginnings_are_well_formed};
 use lin_frontier::{Config, Frontier};
 use lin_objects::{Any, Kind, SeqObject, State};
-use lin_order::{RefConfig, Refutation, exact_sets_refute};
-use lin_orders::prefixes_are_linearizable_by;
+use lin_order::{RefConfig, Refutation, exact_sets_refute, prefixes_are_linearizable_by};
 use std::alloc::Global;
 
 /// All configurations of each beginning of some events, so far.

@@ -4,12 +4,12 @@ ghost use Rattle.lin_events.specs.declared.items.Item.{Item as ItemOf};
 ghost use Rattle.lin_events.specs.declared.calls.Name.{Name as NameOf};
 ghost use Rattle.lin_events.specs.declared.events.Event.{Event as EventOf};
 ghost use Rattle.lin_events.specs.WellFormed.{IsWellFormed};
-ghost use Rattle.lin_orders.specs.Linearizable.{IsLegalOrderAs, IsLinearizableAs};
-ghost use Rattle.lin_orders.specs.Parts.{events_at};
+ghost use Rattle.lin_order.specs.Linearizable.{IsLegalOrderAs, IsLinearizableAs};
+ghost use Rattle.lin_order.specs.Parts.{events_at};
 ghost use Rattle.lin_engines.specs.declared.ends.End.{End as EndOf};
 ghost use Rattle.lin_engines.specs.Ends.{IsEndOf};
 ghost use Rattle.lin_engines.specs.Exacts.{HasExact};
-ghost use Rattle.lin_witness.specs.Witnesses.{quarters};
+ghost use Rattle.lin_engines.specs.Witnesses.{quarters};
 ghost use Rattle.lin_chain.specs.Chains.{IsDecided, IsExactBeside, IsFor, IsKept, IsRight, kind_in, mark_beside, mark_in, told_in};
 ghost use Rattle.lin_chain.specs.Work.{IsSpent, IsSpentAtMost};
 
@@ -17,13 +17,12 @@ use crate::beside::Beside;
 use crate::chain::Chain;
 use crate::found::Found;
 use crate::patience::{Patience, is_worth};
-use lin_compressed::{Scratch, is_counted};
-use lin_engines::{End, Exact, Lane, copied, mend, suggest};
+use lin_compressed_frontier::{Scratch, is_counted};
+use lin_engines::{Back, End, Exact, Lane, Witness, copied, mend, suggest};
 use lin_events::{Event, Meter, OutOfMemory};
 use lin_objects::Any;
-use lin_orders::Placed;
+use lin_order::Placed;
 use lin_search::{Guide, finds_conflict, finds_failure, finds_order};
-use lin_witness::{Back, Witness};
 
 /// So many turns at most are taken behind the engine that stands beside the frontiers.
 const TURNS: usize = 2;

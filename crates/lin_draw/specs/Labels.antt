@@ -3,8 +3,8 @@ use Rattle.std.specs.Prelude.{ℕ, List, [], ◌∷◌, ◌++◌, Option, Some, 
 use Rattle.lin_events.specs.declared.calls.Call.{Call}
 use Rattle.lin_events.specs.declared.calls.Reply.{Reply}
 use Rattle.lin_events.specs.declared.calls.Reply.TheVariants.{Done, Value, Members}
-use Rattle.lin_words.specs.Operations.{call_text}
-use Rattle.lin_words.specs.Values.{reply_text}
+use Rattle.lin_tables.specs.Operations.{call_text}
+use Rattle.lin_tables.specs.Values.{reply_text}
 
 -- an arrow to the right, between spaces
 abbrev pub arrow : List ℕ

@@ -1,13 +1,13 @@
 //! Which operations are drawn.
 ghost use Rattle.std.specs.Prelude.{◌≡◌, ◌<◌, ◌≤◌, ◌+◌, IfOk, length};
 ghost use Rattle.lin_draw.specs.Pictures.{drawn_at_most};
-ghost use Rattle.lin_orders.specs.Tables.{IsNextTable};
+ghost use Rattle.lin_order.specs.Tables.{IsNextTable};
 
 use crate::operations::{is_call, is_open_behind};
 use crate::own::Own;
 use lin_events::OutOfMemory;
+use lin_tables::ran_beside;
 use lin_texts::number;
-use lin_window::ran_beside;
 use std::alloc::Global;
 
 /// At most so many operations are drawn where nothing is said of that.

@@ -1,6 +1,6 @@
 //! How many operations fit into a picture.
 ghost use Rattle.std.specs.Prelude.{◌↔◌, ◌<◌, ◌≤◌, ◌+◌, ◌⊎◌, ◌≡◌, IfOk, IsTrue, length, true};
-ghost use Rattle.lin_orders.specs.Tables.{IsNextTable};
+ghost use Rattle.lin_order.specs.Tables.{IsNextTable};
 
 use crate::choosing::{Chosen, leave_last};
 use crate::layouts::{Layout, MARGIN, Object, layout_of};

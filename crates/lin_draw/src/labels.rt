@@ -6,8 +6,8 @@ use crate::operations::{Operation, Outcome};
 use crate::own::Own;
 use lin_events::Reply;
 use lin_names::Names;
+use lin_tables::{put_call, put_event_spot, put_operation, put_reply};
 use lin_texts::{Place, put_number};
-use lin_words::{put_call, put_event_spot, put_operation, put_reply};
 use std::alloc::{AllocError, Global};
 
 /// So many members of a reply are told in a label; of more, how many they are.

@@ -1,6 +1,6 @@
 //! Where the operations stand in a picture.
 ghost use Rattle.std.specs.Prelude.{◌≤◌, IfOk, length};
-ghost use Rattle.lin_orders.specs.Tables.{IsNextTable};
+ghost use Rattle.lin_order.specs.Tables.{IsNextTable};
 
 use crate::canvas::letters_of;
 use crate::choosing::{Chosen, Mark};
@@ -10,7 +10,7 @@ use crate::operations::{Operation, Outcome, operation_at};
 use crate::own::Own;
 use lin_events::{OutOfMemory, Reply};
 use lin_names::Names;
-use lin_orders::Placed;
+use lin_order::Placed;
 use lin_texts::put_number;
 use std::alloc::{AllocError, Global};
 

@@ -3,7 +3,7 @@ use crate::own::Own;
 use lin_answers::Present;
 use lin_events::{Event, Item, OutOfMemory};
 use lin_objects::Kind;
-use lin_orders::Placed;
+use lin_order::Placed;
 use std::alloc::Global;
 
 /// Who finds the legal orders that pictures show.

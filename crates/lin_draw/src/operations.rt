@@ -1,9 +1,9 @@
 //! How the operations of an object stand.
 ghost use Rattle.std.specs.Prelude.{◌<◌, length};
-ghost use Rattle.lin_orders.specs.Tables.{IsNextTable};
+ghost use Rattle.lin_order.specs.Tables.{IsNextTable};
 
 use lin_events::{Body, Call, Event, Reply};
-use lin_orders::{call_at, end_of};
+use lin_order::{call_at, end_of};
 
 /// How an operation stands after the events.
 #[derive(Clone, Copy)]

@@ -1,7 +1,7 @@
 //! A picture of what an answer is about.
 ghost use Rattle.std.specs.Prelude.{◌≡◌, ℕ, [], IfOk};
 ghost use Rattle.lin_events.specs.declared.shapes.Cause.{Cause as CauseOf};
-ghost use Rattle.lin_orders.specs.Tables.{IsNextTable};
+ghost use Rattle.lin_order.specs.Tables.{IsNextTable};
 ghost use Rattle.lin_draw.specs.Pictures.{IsSvg};
 
 use crate::bars::Scene;
@@ -15,14 +15,14 @@ use crate::own::{Own, own_of};
 use lin_answers::{Answer, Present};
 use lin_events::{Item, OutOfMemory};
 use lin_names::Names;
-use lin_orders::{Placed, ends_of};
+use lin_order::{Placed, ends_of};
+use lin_tables::failing_operation;
 use lin_texts::Place;
-use lin_window::failing_operation;
 use std::alloc::Global;
 
 /// What is drawn, and what is known of it.
 #[derive(Clone, Copy)]
-struct Scene<'a, 'p> {
+struct Sketch<'a, 'p> {
     present: &'a Present<'a>,
     /// The spellings of words.
     names: &'a Names,
@@ -66,7 +66,7 @@ fn stops_of(answer: &Answer, own: &Own) -> Option<usize> {
 fn found_order<O: Orders>(
     alloc: Global,
     orders: &O,
-    asked: &Scene,
+    asked: &Sketch,
     own: &Own,
     failing: Option<usize>,
 ) -> Result<Vec<Placed>, OutOfMemory> {
@@ -85,7 +85,7 @@ fn order_in<'a>(answer: &'a Answer, found: &'a [Placed]) -> &'a [Placed] {
 }
 
 /// The events of the object.
-fn events_for(alloc: Global, asked: &Scene) -> Result<Own, OutOfMemory> {
+fn events_for(alloc: Global, asked: &Sketch) -> Result<Own, OutOfMemory> {
     match asked.subject.key {
         Some(key) => own_of(alloc, asked.present, key, asked.subject.count),
         None => own_of(alloc, asked.present, Item::Int(0), 0),
@@ -95,7 +95,7 @@ fn events_for(alloc: Global, asked: &Scene) -> Result<Own, OutOfMemory> {
 /// The picture with the layout and the texts.
 fn finished(
     alloc: Global,
-    asked: &Scene,
+    asked: &Sketch,
     own: &Own,
     mut layout: Layout,
     texts: &Texts,
@@ -116,7 +116,7 @@ fn finished(
 /// The picture of the object, of whose operations these may be drawn.
 fn pictured(
     alloc: Global,
-    asked: &Scene,
+    asked: &Sketch,
     object: &Object,
     choice: Choice,
 ) -> Result<Vec<u8>, OutOfMemory>
@@ -145,7 +145,7 @@ fn pictured(
 }
 
 /// The picture of what is asked.
-fn picture_of<O: Orders>(alloc: Global, orders: &O, asked: &Scene) -> Result<Vec<u8>, OutOfMemory>
+fn picture_of<O: Orders>(alloc: Global, orders: &O, asked: &Sketch) -> Result<Vec<u8>, OutOfMemory>
     ensures { IfOk result (λ text. IsSvg text.items) }
 {
     let own = events_for(alloc, asked)?;
@@ -187,7 +187,7 @@ pub fn picture_with_places<O: Orders>(
     if let Answer::IllFormed { .. } = answer {
         return Ok(Vec::new(alloc));
     }
-    let asked = Scene {
+    let asked = Sketch {
         present,
         names,
         answer,

@@ -13,7 +13,7 @@ ghost use Rattle.lin_edn.specs.Value as value;
 ghost use Rattle.lin_edn.specs.View.{view, entry_view};
 
 use crate::levels::{
-    Frame, Fate, Sequence, closing, depth, finish, gathered, map_of, opened_at, pop, push,
+    Fate, Frame, Sequence, closing, depth, finish, gathered, map_of, opened_at, pop, push,
 };
 use crate::run::run_element;
 use crate::scan::{line_end, plain_end, run_end, white_end};

@@ -1,3 +1,6 @@
 mod Handed
 mod Printed
 mod Told
+pub mod AsBox
+pub mod Reading
+pub mod Asking

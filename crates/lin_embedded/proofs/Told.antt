@@ -2,10 +2,10 @@
 use Rattle.std.proofs.Common.{◌≡◌, ◌≢◌, ℕ, Bool, List, Option, Some, Ok, ap, subst}
 use Rattle.lin_texts.specs.declared.status.Status.{Status}
 use Rattle.lin_report.specs.Reports.{answer_status}
-use Rattle.lin_recorder.specs.Recorders.{Feeds, Orders}
-use Rattle.lin_recorder.specs.declared.recorder.Intake.{Intake}
-use Rattle.lin_recorder.specs.declared.recorder.Ordered.{Ordered}
-use Rattle.lin_recorder.specs.declared.recorder.Recorder.{Recorder}
+use Rattle.lin_embedded.specs.Recorders.{Feeds, Orders}
+use Rattle.lin_embedded.specs.declared.recorder.Intake.{Intake}
+use Rattle.lin_embedded.specs.declared.recorder.Ordered.{Ordered}
+use Rattle.lin_embedded.specs.declared.recorder.Recorder.{Recorder}
 use Rattle.lin_embedded.specs.Calls.{HandsBack, IsJust}
 use Rattle.lin_embedded.specs.Sessions.{Calls, OrdersAs}
 use Rattle.lin_embedded.specs.declared.handing.CallEnd.{CallEnd}

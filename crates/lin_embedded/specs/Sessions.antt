@@ -5,10 +5,10 @@ use Rattle.lin_answers.specs.declared.answers.Verdict.{Verdict}
 use Rattle.lin_answers.specs.declared.answers.Verdict.TheVariants.{IllFormed, Yes, No, Undecided}
 use Rattle.lin_texts.specs.declared.status.Status.TheVariants.{Refused}
 use Rattle.lin_report.specs.Reports.{answer_status}
-use Rattle.lin_recorder.specs.Handles.{HasFed}
-use Rattle.lin_recorder.specs.Recorders.{Asks, Feeds, Orders}
-use Rattle.lin_recorder.specs.declared.recorder.Ordered.{Ordered}
-use Rattle.lin_recorder.specs.declared.recorder.Recorder.{Recorder}
+use Rattle.lin_embedded.specs.Handles.{HasFed}
+use Rattle.lin_embedded.specs.Recorders.{Asks, Feeds, Orders}
+use Rattle.lin_embedded.specs.declared.recorder.Ordered.{Ordered}
+use Rattle.lin_embedded.specs.declared.recorder.Recorder.{Recorder}
 use Rattle.lin_embedded.specs.Calls.{HandsBack, Telling, number_of}
 use Rattle.lin_embedded.specs.Options.{AreOptions, settings_of}
 use Rattle.lin_embedded.specs.declared.options.Options.{Options}

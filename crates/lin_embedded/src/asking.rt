@@ -6,7 +6,7 @@ ghost use Rattle.lin_report.specs.Explanations.{IsRightExplanation};
 ghost use Rattle.lin_embedded.specs.Calls.{IsPrintedOf};
 
 use crate::handing::Found;
-use lin_report::{Counted, ReportFormat, Question, RunFault, Settings};
+use lin_report::{Counted, Question, ReportFormat, RunFault, Settings};
 use std::alloc::Global;
 use std::collections::VecDeque;
 use std::io::Read;

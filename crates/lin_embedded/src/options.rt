@@ -4,7 +4,7 @@ ghost use Rattle.lin_embedded.specs.Options.{AreOptions, IsQuestion, NamesNone, 
 ghost use Rattle.lin_embedded.specs.Options as said;
 
 use lin_objects::Kind;
-use lin_report::{ReportFormat, Question, Settings};
+use lin_report::{Question, ReportFormat, Settings};
 use lin_texts::item_in;
 
 /// The greatest budget.

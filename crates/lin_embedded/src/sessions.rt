@@ -5,9 +5,9 @@ ghost use Rattle.lin_embedded.specs.Sessions.{AsksAs, Begins, Calls, FeedsAs, Or
 ghost use Rattle.lin_embedded.specs.Sessions as said;
 
 use crate::handing::{CallEnd, Found, hand_back};
+use crate::handle::Handle;
 use crate::options::{Options, are_options, settings_of};
 use lin_answers::Verdict;
-use lin_recorder::Handle;
 use lin_report::Status;
 use std::alloc::Global;
 

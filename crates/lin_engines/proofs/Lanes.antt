@@ -6,8 +6,8 @@ use Rattle.std.proofs.lemmas.List.Elements.{All-take}
 use Rattle.lin_events.specs.declared.events.Event.{Event}
 use Rattle.lin_objects.specs.declared.kinds.Kind.{Kind}
 use Rattle.lin_objects.specs.Steps.{Step, start}
-use Rattle.lin_orders.specs.Configurations.{IsConfiguration, IsOver}
-use Rattle.lin_orders.specs.Linearizable.{IsDeadAt, IsLinearizableAs}
+use Rattle.lin_order.specs.Configurations.{IsConfiguration, IsOver}
+use Rattle.lin_order.specs.Linearizable.{IsDeadAt, IsLinearizableAs}
 use Rattle.lin_engines.specs.Ends.{IsEndOf, IsOverAt}
 use Rattle.lin_engines.specs.Engines.{IsFailing}
 use Rattle.lin_engines.specs.Lanes.{IsStanding, IsStoppedAhead}

@@ -15,13 +15,13 @@ use Rattle.lin_objects.specs.declared.states.State.{State}
 use Rattle.lin_objects.specs.Observing.{observes}
 use Rattle.lin_objects.specs.Overwriting.{overwrites}
 use Rattle.lin_objects.specs.Steps.{Step, start}
-use Rattle.lin_orders.specs.declared.placed.Placed.{Placed}
-use Rattle.lin_orders.specs.ConfigurationLaws.{with_event}
-use Rattle.lin_orders.specs.Laws.{EmptyIsLegal}
+use Rattle.lin_order.specs.declared.placed.Placed.{Placed}
+use Rattle.lin_order.specs.ConfigurationLaws.{with_event}
+use Rattle.lin_order.specs.Laws.{EmptyIsLegal}
 use Rattle.lin_members.specs.declared.members.Path.{Path}
-use Rattle.lin_open.specs.declared.opens.OpenList.{OpenList}
-use Rattle.lin_open.specs.declared.opens.OpenMark.{OpenMark}
-use Rattle.lin_open.specs.Opens.{IsEarlier, IsPast, open_at}
+use Rattle.lin_frontier.specs.declared.opens.OpenList.{OpenList}
+use Rattle.lin_frontier.specs.declared.opens.OpenMark.{OpenMark}
+use Rattle.lin_frontier.specs.Opens.{IsEarlier, IsPast, open_at}
 use Rattle.lin_members.specs.Compressed.{CompressedSpellLegalOrders, IsCompressed}
 use Rattle.lin_frontier.specs.Frontiers.{IsPending, IsNextEvent}
 use Rattle.lin_members.specs.Members.{Member}
@@ -30,9 +30,9 @@ use Rattle.lin_members.specs.Rounds.{joined, SpellsRounds}
 use Rattle.lin_engines.specs.declared.replay.Checkpoint.{Checkpoint}
 use Rattle.lin_engines.specs.declared.replay.Replay.{Replay}
 use Rattle.lin_engines.specs.Replays.{Links, Members, IsAhead, IsCheckpoint, IsCurrent, IsKnown, IsPrepared, IsReplay, KeepsPast}
-use Rattle.lin_orders.specs.Linearizable.{IsLegalOrderAs, IsLinearizableAs}
+use Rattle.lin_order.specs.Linearizable.{IsLegalOrderAs, IsLinearizableAs}
 use Rattle.lin_lists.specs.lemmas.Lists.{get_cases}
-use Rattle.lin_open.specs.lemmas.Lists.{contains_from_get, one_there}
+use Rattle.lin_frontier.specs.lemmas.Lists.{contains_from_get, one_there}
 use Rattle.lin_engines.specs.lemmas.Beginnings.{take_alike}
 use Rattle.lin_engines.specs.lemmas.Events.{event_taken}
 

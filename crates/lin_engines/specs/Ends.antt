@@ -3,8 +3,8 @@ use Rattle.std.specs.Prelude.{◌+◌, ◌<◌, ◌≤◌, ℕ, List, length, ta
 use Rattle.lin_events.specs.declared.events.Event.{Event}
 use Rattle.lin_objects.specs.declared.kinds.Kind.{Kind}
 use Rattle.lin_objects.specs.Steps.{Step, start}
-use Rattle.lin_orders.specs.Configurations.{IsOver}
-use Rattle.lin_orders.specs.Linearizable.{IsDeadAt, IsLinearizableAs}
+use Rattle.lin_order.specs.Configurations.{IsOver}
+use Rattle.lin_order.specs.Linearizable.{IsDeadAt, IsLinearizableAs}
 use Rattle.lin_engines.specs.declared.ends.End.{End}
 use Rattle.lin_engines.specs.declared.ends.End.TheVariants.{Alive, Dead, Over}
 

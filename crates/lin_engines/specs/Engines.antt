@@ -6,7 +6,7 @@ use Rattle.lin_events.specs.declared.events.Event.{Event}
 use Rattle.lin_events.specs.Operations.{IsEvent}
 use Rattle.lin_events.specs.WellFormed.{IsWellFormed}
 use Rattle.lin_objects.specs.declared.kinds.Kind.{Kind}
-use Rattle.lin_orders.specs.Linearizable.{IsLinearizableAs}
+use Rattle.lin_order.specs.Linearizable.{IsLinearizableAs}
 use Rattle.lin_engines.specs.Ends.{IsOverAt}
 use Rattle.lin_engines.specs.declared.says.Says.{Says}
 use Rattle.lin_engines.specs.declared.says.Says.TheVariants.{On, Dead, Over, Gone}

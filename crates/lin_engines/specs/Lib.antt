@@ -5,3 +5,4 @@ pub mod Exacts
 pub mod Replays
 pub mod Witnessing
 pub mod lemmas
+pub mod Witnesses

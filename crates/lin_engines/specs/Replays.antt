@@ -6,11 +6,11 @@ use Rattle.lin_objects.specs.declared.states.State.{State}
 use Rattle.lin_objects.specs.Observing.{observes}
 use Rattle.lin_objects.specs.Overwriting.{overwrites}
 use Rattle.lin_objects.specs.Steps.{Step, start}
-use Rattle.lin_orders.specs.declared.placed.Placed.{Placed}
+use Rattle.lin_order.specs.declared.placed.Placed.{Placed}
 use Rattle.lin_members.specs.declared.members.Path.{Path}
-use Rattle.lin_open.specs.declared.opens.OpenList.{OpenList}
-use Rattle.lin_open.specs.declared.opens.OpenMark.{OpenMark}
-use Rattle.lin_open.specs.Opens.{IsEarlier, IsPast}
+use Rattle.lin_frontier.specs.declared.opens.OpenList.{OpenList}
+use Rattle.lin_frontier.specs.declared.opens.OpenMark.{OpenMark}
+use Rattle.lin_frontier.specs.Opens.{IsEarlier, IsPast}
 use Rattle.lin_members.specs.Compressed.{IsCompressed}
 use Rattle.lin_frontier.specs.Frontiers.{IsPending}
 use Rattle.lin_members.specs.Members.{Member}

@@ -2,8 +2,8 @@
 use Rattle.std.specs.Prelude.{◌≤◌, ℕ, List, length}
 use Rattle.lin_events.specs.declared.events.Event.{Event}
 use Rattle.lin_objects.specs.declared.kinds.Kind.{Kind}
-use Rattle.lin_witness.specs.declared.witness.Witness.{Witness}
-use Rattle.lin_witness.specs.Witnesses.{IsWitness}
+use Rattle.lin_engines.specs.declared.witness.Witness.{Witness}
+use Rattle.lin_engines.specs.Witnesses.{IsWitness}
 use Rattle.lin_engines.specs.declared.lane.Lane.{Lane}
 use Rattle.lin_engines.specs.Lanes.{IsLane, IsOfWitness}
 

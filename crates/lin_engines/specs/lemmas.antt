@@ -1,2 +1,4 @@
 pub mod Beginnings
 pub mod Events
+pub mod Picks
+pub mod Legality

@@ -3,15 +3,15 @@ ghost use Rattle.std.specs.Prelude.{◌≡◌, ◌≤◌, ◌<◌, ◌+◌, ℕ,
 ghost use Rattle.lin_events.specs.declared.events.Event.{Event as EventOf};
 ghost use Rattle.lin_events.specs.Meters.{ticked};
 ghost use Rattle.lin_objects.specs.declared.kinds.Kind.{Kind as KindOf};
-ghost use Rattle.lin_orders.specs.Linearizable.{IsLegalOrderAs, IsLinearizableAs};
+ghost use Rattle.lin_order.specs.Linearizable.{IsLegalOrderAs, IsLinearizableAs};
 ghost use Rattle.lin_engines.specs.declared.says.Says.{Says as SaysOf};
 ghost use Rattle.lin_engines.specs.Engines.{IsCut, IsNext, IsTrueOf, place_after};
 
 use crate::says::Says;
-use lin_compressed::Scratch;
+use lin_compressed_frontier::Scratch;
 use lin_events::{Event, Meter, OutOfMemory};
 use lin_objects::Any;
-use lin_orders::Placed;
+use lin_order::Placed;
 use std::alloc::Global;
 
 /// It sees the events of one object, one after the other, and is right for those that it took in, whatever comes behind them. These have a

@@ -6,11 +6,11 @@ ghost use Rattle.lin_engines.specs.Exacts.{HasExact, SeesExact, kind_of_exact, r
 
 use crate::engine::Engine;
 use crate::says::Says;
-use lin_compressed::Scratch;
+use lin_compressed_frontier::Scratch;
 use lin_events::{Event, Meter, OutOfMemory};
 use lin_locks::{Lock, locks_tell};
 use lin_objects::{Any, Kind};
-use lin_orders::Placed;
+use lin_order::Placed;
 use lin_sets::{Intervals, intervals_tell};
 use std::alloc::Global;
 

@@ -4,8 +4,8 @@ ghost use Rattle.lin_events.specs.declared.items.Item.{Item as ItemOf};
 ghost use Rattle.lin_events.specs.declared.calls.Name.{Name as NameOf};
 ghost use Rattle.lin_events.specs.declared.events.Event.{Event as EventOf};
 ghost use Rattle.lin_events.specs.WellFormed.{IsWellFormed};
-ghost use Rattle.lin_orders.specs.Linearizable.{IsLegalOrderAs};
-ghost use Rattle.lin_orders.specs.Parts.{events_at};
+ghost use Rattle.lin_order.specs.Linearizable.{IsLegalOrderAs};
+ghost use Rattle.lin_order.specs.Parts.{events_at};
 ghost use Rattle.lin_engines.specs.declared.ends.End.{End as EndOf};
 ghost use Rattle.lin_engines.specs.Ends.{IsEndOf};
 ghost use Rattle.lin_engines.specs.Engines.{IsNext};
@@ -14,10 +14,10 @@ ghost use Rattle.lin_engines.specs.Lanes.{IsFor, IsLane, IsStoppedAhead, IsUnder
 use crate::ends::End;
 use crate::engine::Engine;
 use crate::says::Says;
-use lin_compressed::Scratch;
+use lin_compressed_frontier::Scratch;
 use lin_events::{Event, Meter, OutOfMemory};
 use lin_objects::Any;
-use lin_orders::Placed;
+use lin_order::Placed;
 use std::alloc::Global;
 
 /// An engine, what it said last, and how many of the events are no longer due to it: those that it took in, and where it stopped, those that

@@ -5,16 +5,16 @@
 //! comes behind them, and these have a legal order, so the event at which it says `Dead` ends the shortest beginning that has none.
 //! There are
 //!
-//! - `Replay`: the frontiers of `lin_compressed`, of all objects, with a checkpoint at each 64th event; never `Gone`;
+//! - `Replay`: the frontiers of `lin_compressed_frontier`, of all objects, with a checkpoint at each 64th event; never `Gone`;
 //! - `Exact`: the intervals of a set (`lin_sets`) or what a lock owes (`lin_locks`); never `Over` or `Gone`;
-//! - `Witness` (`lin_witness`): an order that goes on, of registers and queues; never `Dead` or `Over`.
+//! - `Witness`: an order that goes on, of registers and queues; never `Dead` or `Over`.
 //!
 //! A `Lane` holds an engine, what it said last, and its mark: how many of the events aren't due to it any more. Edits cut it back, and
 //! it goes on from there.
 //!
 //! Promised, of well-formed events, of each engine and so of each lane: what it says is true (`IsTrueOf`); an order that it tells is a
 //! legal one of what it took in; the event that it takes in is one step; a cut goes back to the place or to at most 63 events before
-//! it, without memory. Not promised: which of them tells first, and when. The algorithms and their papers stand at the crates named.
+//! it, without memory. Not promised: which of them tells first, and when. The algorithms and their papers stand at the crates named, and at the head of `witness`.
 //! More: docs/SEARCHES.md, 'Engines'.
 #![tactic(auto)]
 
@@ -22,8 +22,12 @@ mod ends;
 mod engine;
 mod exact;
 mod lane;
+mod outcomes;
 mod replay;
+mod retold;
 mod says;
+mod searching;
+mod witness;
 mod witnesses;
 
 pub use ends::End;
@@ -32,4 +36,5 @@ pub use exact::Exact;
 pub use lane::Lane;
 pub use replay::Replay;
 pub use says::Says;
+pub use witness::{Back, Witness};
 pub use witnesses::{copied, mend, suggest};

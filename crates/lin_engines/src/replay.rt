@@ -7,24 +7,23 @@ ghost use Rattle.lin_events.specs.Meters.{ticked};
 ghost use Rattle.lin_events.specs.Operations.{IsEvent};
 ghost use Rattle.lin_events.specs.WellFormed.{IsWellFormed};
 ghost use Rattle.lin_objects.specs.Steps.{Step as StepOf, start as start_of};
-ghost use Rattle.lin_orders.specs.declared.placed.Placed.{Placed as PlacedOf};
-ghost use Rattle.lin_orders.specs.ConfigurationLaws.{with_event};
+ghost use Rattle.lin_order.specs.declared.placed.Placed.{Placed as PlacedOf};
+ghost use Rattle.lin_order.specs.ConfigurationLaws.{with_event};
 ghost use Rattle.lin_frontier.specs.Frontiers.{IsNextEvent, IsPending};
-ghost use Rattle.lin_orders.specs.Configurations.{IsOver};
+ghost use Rattle.lin_order.specs.Configurations.{IsOver};
 ghost use Rattle.lin_members.specs.Rounds.{joined, SpellsRounds};
 ghost use Rattle.lin_engines.specs.Replays.{IsCurrent, IsPrepared, IsReplay, KeepsPast, Members, held_count};
-ghost use Rattle.lin_open.specs.Opens.{HasRoom};
-ghost use Rattle.lin_orders.specs.Linearizable.{IsLegalOrderAs, IsLinearizableAs};
+ghost use Rattle.lin_frontier.specs.Opens.{HasRoom};
+ghost use Rattle.lin_order.specs.Linearizable.{IsLegalOrderAs, IsLinearizableAs};
 
 use crate::engine::Engine;
 use crate::says::Says;
-use lin_compressed::{Advance, Compressed, Scratch, members_spell_legal_orders};
+use lin_compressed_frontier::{Advance, Compressed, Scratch, members_spell_legal_orders};
 use lin_events::{Event, Meter, OutOfMemory, beginnings_are_well_formed};
-use lin_frontier::{Arrival, NodeId, nothing_is_open_at_first};
+use lin_frontier::{Arrival, NodeId, OpenList, OpenMark, nothing_is_open_at_first};
 use lin_members::RoundNodes;
 use lin_objects::{Any, Kind, State};
-use lin_open::{OpenList, OpenMark};
-use lin_orders::{Placed, empty_is_legal};
+use lin_order::{Placed, empty_is_legal};
 use std::alloc::Global;
 
 /// How many events are between two checkpoints.

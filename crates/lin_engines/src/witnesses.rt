@@ -4,22 +4,22 @@ ghost use Rattle.lin_events.specs.declared.items.Item.{Item as ItemOf};
 ghost use Rattle.lin_events.specs.declared.calls.Name.{Name as NameOf};
 ghost use Rattle.lin_events.specs.declared.events.Event.{Event as EventOf};
 ghost use Rattle.lin_events.specs.WellFormed.{IsWellFormed};
-ghost use Rattle.lin_orders.specs.Parts.{events_at};
-ghost use Rattle.lin_witness.specs.Witnesses.{IsWitness, quarters};
+ghost use Rattle.lin_order.specs.Parts.{events_at};
+ghost use Rattle.lin_engines.specs.Witnesses.{IsWitness, quarters};
 ghost use Rattle.lin_engines.specs.Witnessing.{IsWitnessLane, kind_of_witness};
 
 use crate::engine::Engine;
 use crate::lane::Lane;
 use crate::says::Says;
-use lin_compressed::Scratch;
+use crate::witness::{Back, Witness};
+use lin_compressed_frontier::Scratch;
 use lin_events::{Event, Meter, OutOfMemory, beginnings_are_well_formed};
 use lin_objects::Any;
-use lin_orders::Placed;
-use lin_witness::{Back, Witness};
+use lin_order::Placed;
 use std::alloc::Global;
 
 impl Engine for Witness {
-    ghost use Rattle.lin_witness.specs.Witnesses.{IsWitness};
+    ghost use Rattle.lin_engines.specs.Witnesses.{IsWitness};
     ghost use Rattle.lin_engines.specs.Lanes.{IsOfWitness};
     ghost use Rattle.lin_engines.specs.Witnessing.{kind_of_witness, reach_of_witness, witness_within};
 

@@ -18,4 +18,4 @@ pub use laws::{
 };
 pub use lists::{IntSet, Items, OutOfMemory, sets};
 pub use meter::Meter;
-pub use shapes::{Cause, Shape, ProcessStatus};
+pub use shapes::{Cause, ProcessStatus, Shape};

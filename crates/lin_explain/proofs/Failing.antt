@@ -22,16 +22,16 @@ use Rattle.lin_objects.specs.declared.kinds.Kind.{Kind}
 use Rattle.lin_objects.specs.declared.states.State.{State}
 use Rattle.lin_objects.specs.Kinds.{functions_of}
 use Rattle.lin_objects.specs.Steps.{Step, start}
-use Rattle.lin_orders.specs.declared.placed.Placed.{Placed}
-use Rattle.lin_orders.specs.ConfigurationLaws.{InfoLaw, InvocationLaw, LegalOrdersEnd}
-use Rattle.lin_orders.specs.Configurations.{EndsIn}
-use Rattle.lin_orders.specs.Linearizable.{IsLinearizable, IsLinearizableAs, IsLinearizableFor}
-use Rattle.lin_orders.specs.Merging.{IsLocal}
-use Rattle.lin_outcomes.specs.Outcomes.{HasNotCrashed}
-use Rattle.lin_orders.specs.lemmas.OneEnd.{one_end, one_process}
-use Rattle.lin_orders.specs.PartLaws.{LinearizableByPart, PartsAreWellFormed, PartsGrow}
-use Rattle.lin_orders.specs.Parts.{part}
-use Rattle.lin_window.specs.lemmas.Standing.{crashed_never}
+use Rattle.lin_order.specs.declared.placed.Placed.{Placed}
+use Rattle.lin_order.specs.ConfigurationLaws.{InfoLaw, InvocationLaw, LegalOrdersEnd}
+use Rattle.lin_order.specs.Configurations.{EndsIn}
+use Rattle.lin_order.specs.Linearizable.{IsLinearizable, IsLinearizableAs, IsLinearizableFor}
+use Rattle.lin_order.specs.Merging.{IsLocal}
+use Rattle.lin_possibilities.specs.Outcomes.{HasNotCrashed}
+use Rattle.lin_order.specs.lemmas.OneEnd.{one_end, one_process}
+use Rattle.lin_order.specs.PartLaws.{LinearizableByPart, PartsAreWellFormed, PartsGrow}
+use Rattle.lin_order.specs.Parts.{part}
+use Rattle.lin_tables.specs.lemmas.Standing.{crashed_never}
 use Rattle.lin_explain.specs.inner.Laws.{FailuresEnd, IsFailure, IsLegalHistory}
 use Rattle.lin_explain.specs.Own.{without_last}
 

@@ -26,16 +26,16 @@ use Rattle.lin_lists.specs.lemmas.Taken.{take_ahead}
 use Rattle.lin_objects.specs.declared.kinds.Kind.{Kind}
 use Rattle.lin_objects.specs.declared.states.State.{State}
 use Rattle.lin_objects.specs.Steps.{Step, start}
-use Rattle.lin_orders.specs.declared.placed.Placed.{Placed}
-use Rattle.lin_orders.specs.ConfigurationLaws.{FailLaw, LegalOrdersEnd, OkLaw}
-use Rattle.lin_orders.specs.Configurations.{EndsIn, IsAdded, IsRising}
-use Rattle.lin_orders.specs.Linearizable.{IsLegalOrderAs, IsLinearizableAs}
-use Rattle.lin_orders.specs.lemmas.Adding.{add_later, rest_rising}
-use Rattle.lin_orders.specs.lemmas.Completing.{fail_completes, ok_completes}
-use Rattle.lin_orders.specs.lemmas.OneEnd.{one_end, one_ending, one_event}
-use Rattle.lin_orders.specs.Orders.{IsBefore}
-use Rattle.lin_possible.specs.Possible.{Answers}
-use Rattle.lin_window.specs.Operations.{IsFailing, IsQuietAt}
+use Rattle.lin_order.specs.declared.placed.Placed.{Placed}
+use Rattle.lin_order.specs.ConfigurationLaws.{FailLaw, LegalOrdersEnd, OkLaw}
+use Rattle.lin_order.specs.Configurations.{EndsIn, IsAdded, IsRising}
+use Rattle.lin_order.specs.Linearizable.{IsLegalOrderAs, IsLinearizableAs}
+use Rattle.lin_order.specs.lemmas.Adding.{add_later, rest_rising}
+use Rattle.lin_order.specs.lemmas.Completing.{fail_completes, ok_completes}
+use Rattle.lin_order.specs.lemmas.OneEnd.{one_end, one_ending, one_event}
+use Rattle.lin_order.specs.Orders.{IsBefore}
+use Rattle.lin_possibilities.specs.Possible.{Answers}
+use Rattle.lin_tables.specs.WindowOperations.{IsFailing, IsQuietAt}
 use Rattle.lin_explain.specs.Laws.{IsAlwaysPlaced, IsParted, IsRight, RecordsWrong, ok_with}
 use Rattle.lin_explain.specs.Own.{without_last}
 use Rattle.lin_explain.specs.inner.Laws.{FailuresMean}

@@ -4,10 +4,10 @@ use Rattle.lin_events.specs.declared.items.Item.{Item}
 use Rattle.lin_events.specs.declared.events.Event.{Event}
 use Rattle.lin_events.specs.WellFormedLaws.{BeginningsAreWellFormed}
 use Rattle.lin_objects.specs.declared.kinds.Kind.{Kind}
-use Rattle.lin_orders.specs.Linearizable.{IsLinearizable, IsLinearizableFor}
-use Rattle.lin_orders.specs.Merging.{IsLocal}
-use Rattle.lin_orders.specs.PartLaws.{LinearizableByPart, PartsAreWellFormed, PartsGrow}
-use Rattle.lin_orders.specs.Parts.{part}
+use Rattle.lin_order.specs.Linearizable.{IsLinearizable, IsLinearizableFor}
+use Rattle.lin_order.specs.Merging.{IsLocal}
+use Rattle.lin_order.specs.PartLaws.{LinearizableByPart, PartsAreWellFormed, PartsGrow}
+use Rattle.lin_order.specs.Parts.{part}
 use Rattle.lin_answers.specs.Answers.{IsAnswer, kinds_in}
 use Rattle.lin_answers.specs.declared.answers.Answer.TheVariants.{No}
 use Rattle.lin_answers.specs.declared.answers.Scope.{Scope}

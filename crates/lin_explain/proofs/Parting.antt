@@ -6,8 +6,8 @@ use Rattle.std.proofs.lemmas.Bool.{ltb-true}
 use Rattle.lin_events.specs.declared.items.Item.{Item}
 use Rattle.lin_events.specs.declared.events.Event.{Event}
 use Rattle.lin_lists.specs.lemmas.Lists.{take_next}
-use Rattle.lin_orders.specs.PartLaws.{PartsGrow}
-use Rattle.lin_orders.specs.Parts.{ArePositionsOf, part}
+use Rattle.lin_order.specs.PartLaws.{PartsGrow}
+use Rattle.lin_order.specs.Parts.{ArePositionsOf, part}
 
 one_longer : (h : List Event) (at : ℕ) (event : Event) → slice_get h at ≡ Some event → take (at + 1) h ≡ take at h ++ event ∷ []
 one_longer h at event is = let next : at + 1 ≡ suc at = omega arith in ap (λ n. take n h) next ∙ take_next at h event is

@@ -7,9 +7,9 @@ use Rattle.lin_events.specs.declared.items.Item.{Item}
 use Rattle.lin_events.specs.declared.events.Event.{Event}
 use Rattle.lin_events.specs.Items.{item_eq}
 use Rattle.lin_events.specs.Meters.{ticked}
-use Rattle.lin_orders.specs.Parts.{part}
+use Rattle.lin_order.specs.Parts.{part}
 use Rattle.lin_answers.specs.Edits.{Present}
-use Rattle.lin_possible.specs.lemmas.Ticks.{ticked_more, ticked_on, ticked_within}
+use Rattle.lin_possibilities.specs.lemmas.Ticks.{ticked_more, ticked_on, ticked_within}
 use Rattle.lin_explain.specs.declared.fallen.Fallen.{Fallen}
 use Rattle.lin_explain.specs.declared.own.Own.{Own}
 use Rattle.lin_explain.specs.Work.{own_count}

@@ -4,11 +4,11 @@ use Rattle.lin_events.specs.declared.items.Item.{Item}
 use Rattle.lin_events.specs.WellFormed.{IsWellFormed}
 use Rattle.lin_objects.specs.declared.kinds.Kind.{Kind}
 use Rattle.lin_objects.specs.Kinds.{functions_of}
-use Rattle.lin_orders.specs.Linearizable.{IsLinearizable}
-use Rattle.lin_orders.specs.Parts.{part}
+use Rattle.lin_order.specs.Linearizable.{IsLinearizable}
+use Rattle.lin_order.specs.Parts.{part}
 use Rattle.lin_certificates.specs.Certificates.{Certifies}
 use Rattle.lin_certificates.specs.declared.certificate.Certificate.{Certificate}
-use Rattle.lin_window.specs.Tables.{Told}
+use Rattle.lin_tables.specs.WindowTables.{Told}
 use Rattle.lin_texts.specs.Items.{item_text}
 use Rattle.lin_answers.specs.Answers.{IsVerdict, kinds_in}
 use Rattle.lin_answers.specs.Edits.{Present}

@@ -6,16 +6,16 @@ use Rattle.lin_events.specs.declared.events.Body.{Body}
 use Rattle.lin_events.specs.declared.events.Body.TheVariants.{Invoke, Ok, Fail, Info}
 use Rattle.lin_events.specs.Operations.{IsEvent}
 use Rattle.lin_objects.specs.declared.kinds.Kind.{Kind}
-use Rattle.lin_orders.specs.Parts.{IsNth}
+use Rattle.lin_order.specs.Parts.{IsNth}
 use Rattle.lin_texts.specs.declared.place.Place.{Place}
 use Rattle.lin_answers.specs.Answers.{kinds_in}
 use Rattle.lin_answers.specs.Edits.{Present}
-use Rattle.lin_window.specs.Operations.{IsFailing}
-use Rattle.lin_window.specs.Tables.{Told}
-use Rattle.lin_words.specs.Operations.{operation_text}
-use Rattle.lin_words.specs.Spots.{event_spot_text}
+use Rattle.lin_tables.specs.WindowOperations.{IsFailing}
+use Rattle.lin_tables.specs.WindowTables.{Told}
+use Rattle.lin_tables.specs.Operations.{operation_text}
+use Rattle.lin_tables.specs.Spots.{event_spot_text}
 use Rattle.lin_explain.specs.Heads.{object_text}
-use Rattle.lin_outcomes.specs.Outcomes.{Failing}
+use Rattle.lin_possibilities.specs.Outcomes.{Failing}
 use Rattle.lin_explain.specs.Own.{IsStretch, without_last}
 use Rattle.lin_explain.specs.Parts.{IsSpot}
 use Rattle.lin_explain.specs.Possible.{IsPossibleText}

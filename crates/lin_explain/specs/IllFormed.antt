@@ -14,8 +14,8 @@ use Rattle.lin_objects.specs.declared.kinds.Kind.{Kind}
 use Rattle.lin_texts.specs.Items.{item_text}
 use Rattle.lin_texts.specs.Kinds.{kind_text}
 use Rattle.lin_texts.specs.declared.place.Place.{Place}
-use Rattle.lin_words.specs.Operations.{event_text, name_text}
-use Rattle.lin_words.specs.Spots.{event_spot_text}
+use Rattle.lin_tables.specs.Operations.{event_text, name_text}
+use Rattle.lin_tables.specs.Spots.{event_spot_text}
 use Rattle.lin_explain.specs.Parts.{IsSpot}
 use Rattle.lin_explain.specs.declared.parts.Parts.{Parts}
 use Rattle.lin_explain.specs.declared.parts.Parts.TheVariants as Part

@@ -8,17 +8,17 @@ use Rattle.lin_events.specs.declared.events.Body.TheVariants.{Ok, Fail}
 use Rattle.lin_events.specs.declared.events.Event.{Event}
 use Rattle.lin_events.specs.Operations.{IsCrashed, IsEvent, IsOk, IsOpen}
 use Rattle.lin_objects.specs.declared.kinds.Kind.{Kind}
-use Rattle.lin_orders.specs.declared.placed.Placed.{Placed}
-use Rattle.lin_orders.specs.Linearizable.{IsLegalOrderAs, IsLinearizableAs}
-use Rattle.lin_orders.specs.Orders.{Places}
-use Rattle.lin_orders.specs.Parts.{part}
+use Rattle.lin_order.specs.declared.placed.Placed.{Placed}
+use Rattle.lin_order.specs.Linearizable.{IsLegalOrderAs, IsLinearizableAs}
+use Rattle.lin_order.specs.Orders.{Places}
+use Rattle.lin_order.specs.Parts.{part}
 use Rattle.lin_answers.specs.Answers.{IsAnswer, kinds_in}
 use Rattle.lin_answers.specs.Edits.{Present}
 use Rattle.lin_answers.specs.declared.answers.Answer.TheVariants.{No}
 use Rattle.lin_answers.specs.declared.answers.Scope.{Scope}
 use Rattle.lin_answers.specs.declared.answers.Scope.TheVariants.{Object, Whole}
-use Rattle.lin_possible.specs.Possible.{Answers}
-use Rattle.lin_window.specs.Operations.{IsFailing, IsQuietAt}
+use Rattle.lin_possibilities.specs.Possible.{Answers}
+use Rattle.lin_tables.specs.WindowOperations.{IsFailing, IsQuietAt}
 use Rattle.lin_explain.specs.Own.{without_last}
 
 -- the failing operation: its ok or its fail is the last event, and before that it is the one open operation of its process

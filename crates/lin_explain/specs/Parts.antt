@@ -6,7 +6,7 @@ use Rattle.lin_objects.specs.declared.kinds.Kind.{Kind}
 use Rattle.lin_texts.specs.declared.place.Place.{Place}
 use Rattle.lin_answers.specs.Answers.{kinds_in}
 use Rattle.lin_answers.specs.Edits.{Present}
-use Rattle.lin_words.specs.Operations.{event_text}
+use Rattle.lin_tables.specs.Operations.{event_text}
 use Rattle.lin_explain.specs.declared.parts.Spot.{Spot}
 
 -- where the event at the position stands in the recording, if there is one

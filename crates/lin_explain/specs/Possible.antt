@@ -4,12 +4,12 @@ use Rattle.lin_events.specs.declared.events.Event.{Event}
 use Rattle.lin_objects.specs.Steps.{Step, start}
 use Rattle.lin_objects.specs.declared.kinds.Kind.{Kind}
 use Rattle.lin_objects.specs.declared.states.State.{State}
-use Rattle.lin_orders.specs.Configurations.{IsOver}
-use Rattle.lin_outcomes.specs.Outcomes.{AreOutcomes, AreStates, Failing}
-use Rattle.lin_outcomes.specs.Texts.{outcomes_text, was_text}
-use Rattle.lin_outcomes.specs.declared.listing.Listed.{Listed}
-use Rattle.lin_outcomes.specs.declared.outcomes.Outcomes.{Outcomes}
-use Rattle.lin_words.specs.Values.{state_text}
+use Rattle.lin_order.specs.Configurations.{IsOver}
+use Rattle.lin_possibilities.specs.Outcomes.{AreOutcomes, AreStates, Failing}
+use Rattle.lin_possibilities.specs.Texts.{outcomes_text, was_text}
+use Rattle.lin_possibilities.specs.declared.listing.Listed.{Listed}
+use Rattle.lin_possibilities.specs.declared.outcomes.Outcomes.{Outcomes}
+use Rattle.lin_tables.specs.Values.{state_text}
 use Rattle.lin_explain.specs.declared.parts.Choices.{Choices}
 
 -- some beginning of the events has more configurations than the budget

@@ -1,9 +1,9 @@
 -- What ran since the object was quiet.
 use Rattle.std.specs.Prelude.{◌≡◌, ◌++◌, ℕ, List, codes, decimal, take}
 use Rattle.lin_objects.specs.declared.kinds.Kind.{Kind}
-use Rattle.lin_orders.specs.Parts.{IsNth}
-use Rattle.lin_window.specs.Operations.{IsLastQuiet}
-use Rattle.lin_window.specs.Tables.{IsTable, Told, around}
+use Rattle.lin_order.specs.Parts.{IsNth}
+use Rattle.lin_tables.specs.WindowOperations.{IsLastQuiet}
+use Rattle.lin_tables.specs.WindowTables.{IsTable, Told, around}
 use Rattle.lin_explain.specs.Possible.{IsWasText}
 
 abbrev pub since_head : ℕ → List ℕ → List ℕ

@@ -6,10 +6,10 @@ use Rattle.lin_objects.specs.declared.kinds.Kind.{Kind}
 use Rattle.lin_texts.specs.declared.place.Place.{Place}
 use Rattle.lin_answers.specs.Answers.{kinds_in}
 use Rattle.lin_answers.specs.Edits.{Present}
-use Rattle.lin_window.specs.Operations.{Exactly, IsOpenAt}
-use Rattle.lin_window.specs.Tables.{IsTable, Told, open_ones}
-use Rattle.lin_words.specs.Operations.{event_text}
-use Rattle.lin_words.specs.Spots.{event_spot_text}
+use Rattle.lin_tables.specs.WindowOperations.{Exactly, IsOpenAt}
+use Rattle.lin_tables.specs.WindowTables.{IsTable, Told, open_ones}
+use Rattle.lin_tables.specs.Operations.{event_text}
+use Rattle.lin_tables.specs.Spots.{event_spot_text}
 use Rattle.lin_explain.specs.Certain.{IsCertainText}
 use Rattle.lin_explain.specs.Heads.{object_text}
 use Rattle.lin_explain.specs.Own.{IsStretch}

@@ -1,15 +1,15 @@
 -- Why the operations of an object have no legal order, where a certificate is told.
 use Rattle.std.specs.Prelude.{◌≡◌, ℕ, List, [], Contains, Option, Some, None, codes, map, option_map}
 use Rattle.lin_objects.specs.declared.kinds.Kind.{Kind}
-use Rattle.lin_orders.specs.Tables.{IsNextTable}
+use Rattle.lin_order.specs.Tables.{IsNextTable}
 use Rattle.lin_candidates.specs.OwnCertificates.{IsOwn}
 use Rattle.lin_certificates.specs.Certificates.{Certifies}
 use Rattle.lin_certificates.specs.declared.certificate.Certificate.{Certificate}
 use Rattle.lin_certificates.specs.declared.certificate.Certificate.TheVariants as Form
-use Rattle.lin_reasons.specs.Groups.{IsListing}
-use Rattle.lin_reasons.specs.Reasons.{IsReason}
-use Rattle.lin_reasons.specs.declared.told.ObjectEvents.{ObjectEvents as Source}
-use Rattle.lin_window.specs.Tables.{Told, position_in}
+use Rattle.lin_certificate_lines.specs.Groups.{IsListing}
+use Rattle.lin_certificate_lines.specs.Reasons.{IsReason}
+use Rattle.lin_certificate_lines.specs.declared.told.ObjectEvents.{ObjectEvents as Source}
+use Rattle.lin_tables.specs.WindowTables.{Told, position_in}
 use Rattle.lin_explain.specs.declared.parts.Why.{Why}
 
 -- the names of the forms

@@ -1,7 +1,7 @@
 //! What is certain where it isn't known how events end: what the no of an object says of the whole, and what a certificate says of its object.
 ghost use Rattle.std.specs.Prelude.{◌≡◌, ◌≤◌, ◌+◌, ◌++◌, ℕ, List, IfOk, OnOk, length, option_map};
-ghost use Rattle.lin_orders.specs.Tables.{IsNextTable};
-ghost use Rattle.lin_window.specs.Tables.{Told as ToldOf, told_of};
+ghost use Rattle.lin_order.specs.Tables.{IsNextTable};
+ghost use Rattle.lin_tables.specs.WindowTables.{Told as ToldOf, told_of};
 ghost use Rattle.lin_explain.specs.Certain.{CertificatesAreCertain, IsCertainText, NoesAreCertain, certain_line};
 ghost use Rattle.lin_explain.specs.Own.{IsStretch};
 ghost use Rattle.lin_explain.specs.inner.Own.{stretch_of};
@@ -16,9 +16,9 @@ use lin_certificates::certificates_exclude_orders;
 use lin_events::{Event, Item, Meter, OutOfMemory};
 use lin_names::Names;
 use lin_objects::Kind;
-use lin_orders::{ends_of, linearizability_is_local, parts_keep_orders, prefixes_are_linearizable};
+use lin_order::{ends_of, linearizability_is_local, parts_keep_orders, prefixes_are_linearizable};
+use lin_tables::Stretch;
 use lin_texts::put_item;
-use lin_window::Stretch;
 use std::alloc::{AllocError, Global};
 
 /// An object's no means that the whole has no legal order. The function does nothing.

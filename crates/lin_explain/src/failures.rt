@@ -1,10 +1,10 @@
 //! What is told of a no.
 ghost use Rattle.std.specs.Prelude.{◌≡◌, ◌≤◌, ◌+◌, ◌-◌, ◌*◌, ◌++◌, ℕ, List, IfOk, OnOk, decimal, length, option_map};
 ghost use Rattle.lin_events.specs.Meters.{ticked};
-ghost use Rattle.lin_orders.specs.Tables.{IsNextTable};
+ghost use Rattle.lin_order.specs.Tables.{IsNextTable};
 ghost use Rattle.lin_answers.specs.Edits.{Present};
-ghost use Rattle.lin_window.specs.Operations.{IsFailing, IsInvoked};
-ghost use Rattle.lin_window.specs.Tables.{told_of};
+ghost use Rattle.lin_tables.specs.WindowOperations.{IsFailing, IsInvoked};
+ghost use Rattle.lin_tables.specs.WindowTables.{told_of};
 ghost use Rattle.lin_explain.specs.Failures.{AreReasons, AreSpots, IsFailureText, IsNoText, ends_text, failing_in, failing_text, head_text, operation_line, prefix_line, reply_in};
 ghost use Rattle.lin_explain.specs.inner.Known.{ArePossible, IsQuietBefore};
 ghost use Rattle.lin_explain.specs.inner.Laws.{IsFailure};
@@ -25,12 +25,10 @@ use crate::whys::put_why;
 use lin_events::{Body, Event, Meter, OutOfMemory, Reply};
 use lin_names::Names;
 use lin_objects::Kind;
-use lin_orders::{ends_of, positions_spell_parts};
-use lin_outcomes::Before;
-use lin_possible::Possible;
+use lin_order::{ends_of, positions_spell_parts};
+use lin_possibilities::{Before, Possible};
+use lin_tables::{Stretch, failing_operation, put_event_spot, put_operation};
 use lin_texts::put_number;
-use lin_window::{Stretch, failing_operation};
-use lin_words::{put_event_spot, put_operation};
 use std::alloc::{AllocError, Global};
 
 /// So many passes are made through the events of a failing object, beside the run that tells what was possible: for the ends of its

@@ -13,8 +13,8 @@ use lin_answers::Present;
 use lin_events::{Body, Cause, Event, Meter, Name, OutOfMemory};
 use lin_names::Names;
 use lin_objects::Kind;
+use lin_tables::{name_word, put_event, put_event_spot};
 use lin_texts::kind_word;
-use lin_words::{name_word, put_event, put_event_spot};
 use std::alloc::{AllocError, Global};
 
 /// Puts the words of an event last, and where it stands.

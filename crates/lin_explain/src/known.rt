@@ -1,8 +1,8 @@
 //! What is known of an object before a failure, by one run through its events.
 ghost use Rattle.std.specs.Prelude.{◌≡◌, ◌≤◌, ◌+◌, ◌*◌, length, IfOk, IfSome};
 ghost use Rattle.lin_events.specs.Meters.{ticked};
-ghost use Rattle.lin_orders.specs.Tables.{IsNextTable};
-ghost use Rattle.lin_window.specs.Operations.{IsInvoked};
+ghost use Rattle.lin_order.specs.Tables.{IsNextTable};
+ghost use Rattle.lin_tables.specs.WindowOperations.{IsInvoked};
 ghost use Rattle.lin_explain.specs.inner.Known.{ArePossible, IsQuietBefore};
 ghost use Rattle.lin_explain.specs.inner.Laws.{IsLegalHistory};
 ghost use Rattle.lin_explain.specs.Own.{without_last as all_but_last};
@@ -10,9 +10,8 @@ ghost use Rattle.lin_explain.specs.Own.{without_last as all_but_last};
 use crate::failures::{Failure, without_last};
 use crate::laws::beginnings_are_legal;
 use lin_events::{Meter, OutOfMemory};
-use lin_outcomes::put_was;
-use lin_possible::Possible;
-use lin_window::quiet_before;
+use lin_possibilities::{Possible, put_was};
+use lin_tables::quiet_before;
 use std::alloc::Global;
 
 /// Where an object was quiet before a failure, and what it was there.

@@ -4,7 +4,7 @@ ghost use Rattle.lin_explain.specs.inner.Laws.{BeginningsAreLegal, FailuresEnd, 
 
 use lin_events::{bad_positions, beginnings_are_well_formed, well_formed_is_alternating};
 use lin_objects::{Any, Kind};
-use lin_orders::{
+use lin_order::{
     configurations_after_events, legal_orders_end, linearizability_is_local, parts_grow,
     parts_keep_operations, parts_keep_orders, prefixes_are_linearizable_by,
 };

@@ -2,13 +2,13 @@
 ghost use Rattle.std.specs.Prelude.{◌≡◌, ◌≤◌, ◌+◌, ◌*◌, ◌∷◌, ◌++◌, [], IfOk, OnOk, length, take};
 ghost use Rattle.lin_events.specs.Items.{item_eq};
 ghost use Rattle.lin_events.specs.Meters.{ticked};
-ghost use Rattle.lin_orders.specs.Parts.{ArePositionsOf, part};
+ghost use Rattle.lin_order.specs.Parts.{ArePositionsOf, part};
 ghost use Rattle.lin_explain.specs.inner.Own.{IsOwn};
 
 use crate::passes::{tick_passes, tick_steps};
 use lin_answers::{Present, WholeHistory};
 use lin_events::{Event, Item, Meter, OutOfMemory};
-use lin_orders::parts_grow;
+use lin_order::parts_grow;
 use std::alloc::Global;
 
 /// The events of an object among the first so many of a history, and their positions in it.

@@ -1,16 +1,15 @@
 //! What was possible before a failure.
 ghost use Rattle.std.specs.Prelude.{◌≡◌, ◌++◌, ℕ, List, IfOk, OnOk, map, option_map};
-ghost use Rattle.lin_outcomes.specs.Outcomes.{HasNotCrashed, failing_of};
-ghost use Rattle.lin_outcomes.specs.Texts.{outcomes_text};
+ghost use Rattle.lin_possibilities.specs.Outcomes.{HasNotCrashed, failing_of};
+ghost use Rattle.lin_possibilities.specs.Texts.{outcomes_text};
 ghost use Rattle.lin_explain.specs.inner.Known.{ArePossible};
 ghost use Rattle.lin_explain.specs.inner.Laws.{IsLegalHistory};
 ghost use Rattle.lin_explain.specs.Possible.{AreChoices, IsPossibleText};
 
 use crate::parts::Choices;
 use lin_events::OutOfMemory;
-use lin_outcomes::{Before, Listed, Outcomes, outcomes_of, put_outcomes};
-use lin_possible::Possible;
-use lin_words::ListLine;
+use lin_possibilities::{Before, Listed, Outcomes, Possible, outcomes_of, put_outcomes};
+use lin_tables::ListLine;
 use std::alloc::{AllocError, Global};
 
 /// What is told to be possible, in parts.

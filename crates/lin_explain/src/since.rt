@@ -1,16 +1,16 @@
 //! What ran since the object was quiet.
 ghost use Rattle.std.specs.Prelude.{◌≡◌, ◌++◌, ℕ, List, IfOk, OnOk, codes, decimal, length};
-ghost use Rattle.lin_orders.specs.Tables.{IsNextTable};
-ghost use Rattle.lin_window.specs.Operations.{IsInvoked};
-ghost use Rattle.lin_window.specs.Tables.{told_of};
+ghost use Rattle.lin_order.specs.Tables.{IsNextTable};
+ghost use Rattle.lin_tables.specs.WindowOperations.{IsInvoked};
+ghost use Rattle.lin_tables.specs.WindowTables.{told_of};
 ghost use Rattle.lin_explain.specs.inner.Known.{IsQuietBefore};
 ghost use Rattle.lin_explain.specs.Since.{IsSinceText, since_head};
 
 use crate::failures::Failure;
 use crate::known::Quiet;
 use lin_events::OutOfMemory;
+use lin_tables::{ListedOperations, Window, put_operations};
 use lin_texts::put_number;
-use lin_window::{ListedOperations, Window, put_operations};
 use std::alloc::{AllocError, Global};
 
 /// Puts last since which position of the whole history the stretch runs.

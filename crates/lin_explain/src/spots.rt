@@ -5,8 +5,8 @@ ghost use Rattle.lin_explain.specs.Parts.{IsSpot, place_of};
 use crate::parts::Spot;
 use lin_events::{Event, OutOfMemory};
 use lin_names::Names;
+use lin_tables::put_event;
 use lin_texts::Place;
-use lin_words::put_event;
 use std::alloc::Global;
 
 /// What events are told by besides themselves.

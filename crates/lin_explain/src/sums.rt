@@ -1,7 +1,7 @@
 //! A certificate of all events of an object of which it isn't known how they end: what comes of counting, in one pass, or what the search for a
 //! certificate finds among the last operations.
 ghost use Rattle.std.specs.Prelude.{IfOk, IfSome};
-ghost use Rattle.lin_orders.specs.Tables.{IsNextTable};
+ghost use Rattle.lin_order.specs.Tables.{IsNextTable};
 ghost use Rattle.lin_certificates.specs.Certificates.{Certifies};
 
 use lin_candidates::find_certificate;

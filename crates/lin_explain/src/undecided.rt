@@ -3,9 +3,9 @@ ghost use Rattle.std.specs.Prelude.{◌≡◌, ◌<◌, ◌≤◌, ◌+◌, ◌*
 ghost use Rattle.lin_events.specs.declared.events.Event.{Event as EventOf};
 ghost use Rattle.lin_events.specs.Meters.{ticked};
 ghost use Rattle.lin_events.specs.Operations.{IsEvent};
-ghost use Rattle.lin_orders.specs.Parts.{part};
-ghost use Rattle.lin_orders.specs.Tables.{IsNextTable};
-ghost use Rattle.lin_window.specs.Tables.{told_of};
+ghost use Rattle.lin_order.specs.Parts.{part};
+ghost use Rattle.lin_order.specs.Tables.{IsNextTable};
+ghost use Rattle.lin_tables.specs.WindowTables.{told_of};
 ghost use Rattle.lin_explain.specs.Undecided.{IsOpenText, IsUndecidedText, end_text, event_line, front_text, help_text, helps, helps_text, open_line};
 ghost use Rattle.lin_explain.specs.inner.Own.{stretch_of};
 
@@ -18,10 +18,11 @@ use crate::spots::{Origin, spot_of};
 use lin_answers::Present;
 use lin_events::{Event, Meter, OutOfMemory};
 use lin_objects::Kind;
-use lin_orders::ends_of;
+use lin_order::ends_of;
+use lin_tables::{
+    ListedOperations, Stretch, open_counts, put_event, put_event_spot, put_operations,
+};
 use lin_texts::put_number;
-use lin_window::{ListedOperations, Stretch, open_counts, put_operations};
-use lin_words::{put_event, put_event_spot};
 use std::alloc::{AllocError, Global};
 
 /// The greatest budget.

@@ -1,17 +1,17 @@
 //! Why the operations of an object have no legal order: certificates.
 ghost use Rattle.std.specs.Prelude.{◌≡◌, ◌++◌, ℕ, List, IfOk, map};
 ghost use Rattle.lin_certificates.specs.Certificates.{Certifies};
-ghost use Rattle.lin_orders.specs.Tables.{IsNextTable};
-ghost use Rattle.lin_window.specs.Tables.{position_in, told_of};
+ghost use Rattle.lin_order.specs.Tables.{IsNextTable};
+ghost use Rattle.lin_tables.specs.WindowTables.{position_in, told_of};
 ghost use Rattle.lin_explain.specs.Whys.{IsWhy, IsWhyText, form_name as name_of};
 
 use crate::parts::Why;
 use lin_candidates::find_certificate;
+use lin_certificate_lines::{ObjectEvents, put_reason};
 use lin_certificates::Certificate;
 use lin_events::OutOfMemory;
 use lin_objects::Kind;
-use lin_reasons::{ObjectEvents, put_reason};
-use lin_window::Stretch;
+use lin_tables::Stretch;
 use std::alloc::{AllocError, Global};
 
 /// What is told of why there is no legal order.

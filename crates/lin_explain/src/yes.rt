@@ -13,7 +13,7 @@ use lin_answers::Present;
 use lin_events::{Item, Meter, OutOfMemory};
 use lin_names::Names;
 use lin_objects::Kind;
-use lin_orders::Placed;
+use lin_order::Placed;
 use lin_texts::{put_number, write_order};
 use std::alloc::{AllocError, Global};
 

@@ -10,8 +10,8 @@ use Rattle.lin_history.specs.Stream.{IsStreamBy, IsStream, StreamsAreUnique}
 use Rattle.lin_events.specs.WellFormedLaws.{ShapesAreUnique}
 use Rattle.lin_objects.specs.declared.kinds.Kind.{Kind}
 use Rattle.lin_objects.specs.Kinds.{functions_of}
-use Rattle.lin_orders.specs.declared.placed.Placed.{Placed}
-use Rattle.lin_orders.specs.Linearizable.{IsLegalOrder}
+use Rattle.lin_order.specs.declared.placed.Placed.{Placed}
+use Rattle.lin_order.specs.Linearizable.{IsLegalOrder}
 use Rattle.lin_formats.specs.Inputs.{limit, IsFaulty, AreRefused, IsTooMany, IsWhole}
 use Rattle.lin_texts.specs.Orders.{order_of, order_said, order_written, IsOrderBy}
 use Rattle.lin_formats.specs.Verdicts.{all_of, IsJudged, IsRightBy}

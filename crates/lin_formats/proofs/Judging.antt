@@ -10,8 +10,8 @@ use Rattle.lin_events.specs.declared.shapes.Cause.{Cause}
 use Rattle.lin_events.specs.declared.shapes.Shape.{Shape}
 use Rattle.lin_events.specs.declared.shapes.Shape.TheVariants.{Good, Bad}
 use Rattle.lin_events.specs.WellFormed.{IsShape}
-use Rattle.lin_orders.specs.declared.placed.Placed.{Placed}
-use Rattle.lin_orders.specs.Linearizable.{IsLegalOrder}
+use Rattle.lin_order.specs.declared.placed.Placed.{Placed}
+use Rattle.lin_order.specs.Linearizable.{IsLegalOrder}
 use Rattle.lin_names.specs.Names.{Begins}
 use Rattle.lin_names.specs.lemmas.Begins.{agrees_before}
 use Rattle.lin_formats.specs.Histories.{EndsFor, IsHistory}

@@ -2,3 +2,17 @@ pub mod Alone
 pub mod Judging
 pub mod Taking
 pub mod Written
+pub mod Tails
+pub mod Begun
+pub mod Levels
+pub mod Found
+pub mod Newlines
+pub mod Rows
+pub mod Telling
+pub mod Marking
+pub mod Reading
+pub mod Feeding
+pub mod Beginnings
+pub mod Calm
+pub mod Later
+pub mod ValuePairs

@@ -6,3 +6,9 @@ pub mod Verdicts
 pub mod VerdictLaws
 pub mod lemmas
 pub mod Intakes
+pub mod Places
+pub mod Rests
+pub mod inner
+pub mod Elements
+pub mod Hints
+pub mod Refused

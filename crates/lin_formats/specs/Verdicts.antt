@@ -8,8 +8,8 @@ use Rattle.lin_objects.specs.Kinds.{functions_of}
 use Rattle.lin_events.specs.declared.shapes.Shape.TheVariants.{Bad}
 use Rattle.lin_events.specs.WellFormed.{IsShape, IsWellFormed}
 use Rattle.lin_names.specs.Names.{AreEachOnce}
-use Rattle.lin_orders.specs.declared.placed.Placed.{Placed}
-use Rattle.lin_orders.specs.Linearizable.{IsLegalOrder}
+use Rattle.lin_order.specs.declared.placed.Placed.{Placed}
+use Rattle.lin_order.specs.Linearizable.{IsLegalOrder}
 use Rattle.lin_formats.specs.VerdictTexts.{line_of, status_of}
 use Rattle.lin_formats.specs.Inputs.{AreRefused, IsWhole}
 use Rattle.lin_formats.specs.Histories.{StopsFor}

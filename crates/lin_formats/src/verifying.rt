@@ -14,7 +14,7 @@ use crate::writing::write_whole;
 use lin_events::{Event, Meter, OutOfMemory, Shape};
 use lin_names::Names;
 use lin_objects::{Kind, Kinds};
-use lin_orders::check_order;
+use lin_order::check_order;
 use lin_texts::{OrderFault, RunFault, Settings, Status, read_order};
 use lin_wellformed::Scan;
 use std::alloc::Global;

@@ -3,3 +3,6 @@ pub mod Outcomes
 pub mod Entries
 pub mod Marking
 pub mod PendingAfter
+pub mod Freshening
+pub mod Marks
+pub mod Holding

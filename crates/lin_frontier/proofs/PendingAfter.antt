@@ -17,7 +17,7 @@ use Rattle.lin_events.specs.Alternation.{IsAlternating}
 use Rattle.lin_events.specs.Operations.{IsCrashed, IsEnd, IsOperation, IsOpen}
 use Rattle.lin_events.specs.WellFormed.{Completes, IsWellFormed}
 use Rattle.lin_events.specs.WellFormedLaws.{BeginningsAreWellFormed, WellFormedIsAlternating}
-use Rattle.lin_orders.specs.ConfigurationLaws.{with_event}
+use Rattle.lin_order.specs.ConfigurationLaws.{with_event}
 use Rattle.lin_frontier.specs.declared.pending.Open.{Open}
 use Rattle.lin_frontier.specs.Frontiers.{IsNextEvent, IsPending}
 use Rattle.lin_frontier.specs.Placing.{marked}

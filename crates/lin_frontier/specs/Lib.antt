@@ -6,3 +6,4 @@ pub mod Masks
 pub mod Sharing
 pub mod Placing
 pub mod lemmas
+pub mod Opens

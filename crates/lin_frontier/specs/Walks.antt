@@ -2,7 +2,7 @@
 use Rattle.std.specs.Prelude.{◌≡◌, ◌≢◌, ◌≤◌, ℕ, suc, ◌+◌, List, [], ◌∷◌, ◌++◌, length, All, AllPairs, Contains, Some, slice_get}
 use Rattle.std.specs.Map.{keys_of}
 use Rattle.lin_events.specs.declared.meter.Meter.{Meter}
-use Rattle.lin_orders.specs.declared.placed.Placed.{Placed}
+use Rattle.lin_order.specs.declared.placed.Placed.{Placed}
 use Rattle.lin_frontier.specs.Nodes.{Spells}
 
 -- steps that place these operations lead from a to b

@@ -10,3 +10,5 @@ pub mod Spelling
 pub mod Each
 pub mod Masking
 pub mod Truths
+pub mod Lists
+pub mod Listing

@@ -5,10 +5,10 @@ ghost use Rattle.lin_events.specs.declared.calls.Reply.{Reply as ReplyOf};
 ghost use Rattle.lin_events.specs.declared.calls.Name.{Name as NameOf};
 ghost use Rattle.lin_events.specs.declared.events.Event.{Event as EventOf};
 ghost use Rattle.lin_events.specs.Meters.{ticked};
-ghost use Rattle.lin_orders.specs.ConfigurationLaws.{with_event};
-ghost use Rattle.lin_orders.specs.Linearizable.{IsLinearizableBy};
+ghost use Rattle.lin_order.specs.ConfigurationLaws.{with_event};
+ghost use Rattle.lin_order.specs.Linearizable.{IsLinearizableBy};
 ghost use Rattle.lin_frontier.specs.Frontiers.{IsFrontier, IsNextEvent, tries_within};
-ghost use Rattle.lin_orders.specs.Configurations.{IsOver};
+ghost use Rattle.lin_order.specs.Configurations.{IsOver};
 ghost use Rattle.lin_frontier.specs.Nodes.{IsGrown};
 ghost use Rattle.lin_frontier.specs.Walks.{IsTriedAtMost};
 ghost use Rattle.indexmap.specs.IndexMap.{index_map_len};
@@ -22,7 +22,7 @@ use crate::search::closure;
 use indexmap::IndexMap;
 use lin_events::{Body, Event, Meter, OutOfMemory, well_formed_is_alternating};
 use lin_objects::SeqObject;
-use lin_orders::{
+use lin_order::{
     configurations_after_events, configurations_at_start, legal_orders_end, placing_is_legal,
 };
 use std::alloc::Global;

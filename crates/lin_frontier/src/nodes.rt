@@ -1,10 +1,10 @@
 //! Back links: how each configuration was come by.
 ghost use Rattle.std.specs.Prelude.{◌≡◌, ◌+◌, ◌-◌, ◌<◌, ◌∷◌, ◌++◌, [], List, Some, length, take, slice_get, IfOk, IfSome, IfNone, OnOk, OnErr};
-ghost use Rattle.lin_orders.specs.declared.placed.Placed.{Placed as PlacedOf};
+ghost use Rattle.lin_order.specs.declared.placed.Placed.{Placed as PlacedOf};
 ghost use Rattle.lin_frontier.specs.Nodes.{Spells};
 
 use lin_events::{OutOfMemory, Reply};
-use lin_orders::Placed;
+use lin_order::Placed;
 use std::alloc::Global;
 use std::marker::Model;
 
@@ -19,7 +19,7 @@ pub struct Nodes {
 
 impl Model for Nodes {
     ghost use Rattle.std.specs.Prelude.{ℕ, List};
-    ghost use Rattle.lin_orders.specs.declared.placed.Placed.{Placed as PlacedOf};
+    ghost use Rattle.lin_order.specs.declared.placed.Placed.{Placed as PlacedOf};
 
     ghost Value = { List (ℕ × PlacedOf) };
 

@@ -3,7 +3,7 @@ ghost use Rattle.std.specs.Prelude.{◌≡◌, ◌⊎◌, ◌&&◌, ◌+◌, ◌
 ghost use Rattle.lin_events.specs.declared.items.Item.{Item as ItemOf};
 ghost use Rattle.lin_events.specs.declared.calls.Name.{Name as NameOf};
 ghost use Rattle.lin_events.specs.declared.events.Event.{Event as EventOf};
-ghost use Rattle.lin_orders.specs.ConfigurationLaws.{with_event};
+ghost use Rattle.lin_order.specs.ConfigurationLaws.{with_event};
 ghost use Rattle.lin_frontier.specs.Frontiers.{IsNextEvent, IsPending};
 ghost use Rattle.lin_frontier.specs.Masks.{crashed_bits as crashed_bits_of, is_crashed as is_crashed_in, bits_beside as bits_beside_of};
 ghost use Rattle.lin_frontier.specs.Placing.{marked};

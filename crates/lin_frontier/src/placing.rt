@@ -11,7 +11,7 @@ use crate::search::Steps;
 use crate::spare::Spare;
 use lin_events::{Meter, OutOfMemory, Reply};
 use lin_objects::SeqObject;
-use lin_orders::Placed;
+use lin_order::Placed;
 use std::alloc::Global;
 use std::hash::Hash;
 

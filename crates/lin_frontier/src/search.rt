@@ -1,14 +1,14 @@
 //! All that steps reach from some starts, in a map that is its own work list.
 ghost use Rattle.std.specs.Prelude.{◌≡◌, ◌≤◌, ◌*◌, ◌++◌, ◌∷◌, ℕ, true, All, Contains, IfOk, IfSome, IfNone, OnOk};
 ghost use Rattle.indexmap.specs.IndexMap.{index_map_len};
-ghost use Rattle.lin_orders.specs.declared.placed.Placed.{Placed as PlacedOf};
+ghost use Rattle.lin_order.specs.declared.placed.Placed.{Placed as PlacedOf};
 ghost use Rattle.lin_frontier.specs.Nodes.{IsGrown};
 ghost use Rattle.lin_frontier.specs.Walks.{IsAbsorbed, IsBeyond, IsClosure, IsTriedAtMost};
 
 use crate::nodes::{NodeId, Nodes};
 use indexmap::IndexMap;
 use lin_events::{Meter, OutOfMemory};
-use lin_orders::Placed;
+use lin_order::Placed;
 use std::alloc::Global;
 use std::hash::Hash;
 

@@ -10,8 +10,8 @@ mod values;
 
 pub use follow::{Follow, FollowFault, faults_stay, streams_are_unique};
 pub use lin_events::{
-    Body, Call, Cause, Event, IntSet, Item, Items, Meter, Name, OutOfMemory, Reply, Shape, ProcessStatus,
-    Val,
+    Body, Call, Cause, Event, IntSet, Item, Items, Meter, Name, OutOfMemory, ProcessStatus, Reply,
+    Shape, Val,
 };
 pub use lin_names::Names;
 pub use next::{NextEvent, next_event};

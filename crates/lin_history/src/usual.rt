@@ -121,7 +121,13 @@ fn usual_value(text: &[u8], at: usize, end: usize, levels: usize) -> (Extent, us
 
 /// Takes the usual entry at a place, whose value has so many levels at most, and tells where it ends; that place where none stands there.
 #[inline(always)]
-fn take_entry(text: &[u8], from: usize, end: usize, levels: usize, places: &mut ValueExtents) -> usize
+fn take_entry(
+    text: &[u8],
+    from: usize,
+    end: usize,
+    levels: usize,
+    places: &mut ValueExtents,
+) -> usize
     requires begun { from ≤ end }
     requires inside { end ≤ length text.now }
     ensures within { (from ≤ result) × (result ≤ end) }

@@ -7,8 +7,8 @@ use Rattle.std.proofs.lemmas.Bool.Decides.{Decides-eqb}
 use Rattle.std.proofs.lemmas.List.Kept.{AllPairs-cons}
 use Rattle.lin_lists.specs.lemmas.Elements.{all_of, first_or_rest, nothing_in}
 use Rattle.lin_events.specs.declared.calls.Reply.TheVariants.{Done}
-use Rattle.lin_failures.specs.lemmas.Counting.{first_apart, pairs_rest}
-use Rattle.lin_orders.specs.declared.placed.Placed.{Placed}
+use Rattle.lin_certificates.specs.lemmas.Counting.{first_apart, pairs_rest}
+use Rattle.lin_order.specs.declared.placed.Placed.{Placed}
 use Rattle.lin_locks.specs.declared.sides.Debt.{Debt}
 use Rattle.lin_locks.specs.inner.Fillings.{filled, in_turn, paying, settled}
 

@@ -20,17 +20,17 @@ use Rattle.lin_events.specs.lemmas.OneMore.{alternates_before, ok_kept, one_call
 use Rattle.lin_objects.specs.declared.kinds.Kind.TheVariants.{Mutex}
 use Rattle.lin_objects.specs.declared.states.State.TheVariants.{Held}
 use Rattle.lin_objects.specs.Steps.{Step, start}
-use Rattle.lin_orders.specs.declared.placed.Placed.{Placed}
-use Rattle.lin_orders.specs.Orders.{Places}
-use Rattle.lin_orders.specs.Configurations.{EndsIn, IsAdded, IsRising}
-use Rattle.lin_orders.specs.ConfigurationLaws.{with_event}
-use Rattle.lin_orders.specs.lemmas.Adding.{can_add}
-use Rattle.lin_orders.specs.lemmas.Completing.{fail_completes, fail_lem, info_completes, info_lem, ok_completes, ok_lem}
-use Rattle.lin_orders.specs.lemmas.Invoking.{after_invocation}
-use Rattle.lin_orders.specs.lemmas.Opening.{open_back}
-use Rattle.lin_orders.specs.lemmas.Placing.{placing_lem}
-use Rattle.lin_failures.specs.lemmas.Conflicting.{across}
-use Rattle.lin_failures.specs.lemmas.Counting.{first_apart}
+use Rattle.lin_order.specs.declared.placed.Placed.{Placed}
+use Rattle.lin_order.specs.Orders.{Places}
+use Rattle.lin_order.specs.Configurations.{EndsIn, IsAdded, IsRising}
+use Rattle.lin_order.specs.ConfigurationLaws.{with_event}
+use Rattle.lin_order.specs.lemmas.Adding.{can_add}
+use Rattle.lin_order.specs.lemmas.Completing.{fail_completes, fail_lem, info_completes, info_lem, ok_completes, ok_lem}
+use Rattle.lin_order.specs.lemmas.Invoking.{after_invocation}
+use Rattle.lin_order.specs.lemmas.Opening.{open_back}
+use Rattle.lin_order.specs.lemmas.Placing.{placing_lem}
+use Rattle.lin_certificates.specs.lemmas.Conflicting.{across}
+use Rattle.lin_certificates.specs.lemmas.Counting.{first_apart}
 use Rattle.lin_locks.specs.declared.sides.Debt.{Debt}
 use Rattle.lin_locks.specs.inner.Debts.{IsPaid, lock_call}
 use Rattle.lin_locks.specs.inner.Fillings.{IsKept, IsLegalFilled, IsPayment, filled, paying}

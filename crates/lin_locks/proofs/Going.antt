@@ -15,12 +15,12 @@ use Rattle.lin_events.specs.lemmas.OneMore.{alternates_before, one_call, one_ope
 use Rattle.lin_objects.specs.declared.kinds.Kind.TheVariants.{Mutex}
 use Rattle.lin_objects.specs.declared.states.State.TheVariants.{Held}
 use Rattle.lin_objects.specs.Steps.{Step, start}
-use Rattle.lin_orders.specs.Linearizable.{IsLegalOrderAs, IsLinearizableAs}
-use Rattle.lin_orders.specs.Configurations.{EndsIn}
-use Rattle.lin_orders.specs.ConfigurationLaws.{with_event}
-use Rattle.lin_orders.specs.lemmas.Ending.{start_lem}
-use Rattle.lin_orders.specs.lemmas.Opening.{open_beside, opens}
-use Rattle.lin_orders.specs.lemmas.Quiet.{info_quiet}
+use Rattle.lin_order.specs.Linearizable.{IsLegalOrderAs, IsLinearizableAs}
+use Rattle.lin_order.specs.Configurations.{EndsIn}
+use Rattle.lin_order.specs.ConfigurationLaws.{with_event}
+use Rattle.lin_order.specs.lemmas.Ending.{start_lem}
+use Rattle.lin_order.specs.lemmas.Opening.{open_beside, opens}
+use Rattle.lin_order.specs.lemmas.Quiet.{info_quiet}
 use Rattle.lin_locks.specs.declared.sides.Debt.{Debt}
 use Rattle.lin_locks.specs.inner.Known.{Known, Part}
 use Rattle.lin_locks.specs.inner.Debts.{lock_call}

@@ -17,10 +17,10 @@ use Rattle.lin_events.specs.WellFormedLaws.{WellFormedIsAlternating}
 use Rattle.lin_events.specs.lemmas.OneMore.{completes, one_open}
 use Rattle.lin_objects.specs.declared.kinds.Kind.TheVariants.{Mutex}
 use Rattle.lin_objects.specs.Steps.{Step, start}
-use Rattle.lin_orders.specs.Linearizable.{IsLinearizableAs}
-use Rattle.lin_orders.specs.ConfigurationLaws.{with_event}
-use Rattle.lin_orders.specs.lemmas.Ending.{ends}
-use Rattle.lin_orders.specs.lemmas.Opening.{open_back, opens}
+use Rattle.lin_order.specs.Linearizable.{IsLinearizableAs}
+use Rattle.lin_order.specs.ConfigurationLaws.{with_event}
+use Rattle.lin_order.specs.lemmas.Ending.{ends}
+use Rattle.lin_order.specs.lemmas.Opening.{open_back, opens}
 use Rattle.lin_locks.specs.declared.latest.Running.{Running}
 use Rattle.lin_locks.specs.inner.Debts.{Config, IsOfLock, lock_call}
 use Rattle.lin_locks.specs.inner.Turns.{AreRunning, IsEnding}

@@ -6,7 +6,7 @@ use Rattle.lin_events.specs.declared.events.Event.{Event}
 use Rattle.lin_events.specs.WellFormed.{IsWellFormed}
 use Rattle.lin_events.specs.lemmas.Alternating.{beginning_is_well_formed}
 use Rattle.lin_lists.specs.lemmas.Lists.{take_next}
-use Rattle.lin_orders.specs.ConfigurationLaws.{with_event}
+use Rattle.lin_order.specs.ConfigurationLaws.{with_event}
 use Rattle.lin_locks.specs.declared.locks.Lock.{Lock}
 use Rattle.lin_locks.specs.inner.Known.{Known, known_of}
 use Rattle.lin_locks.specs.inner.Turns.{HasPlaces, IsRight}

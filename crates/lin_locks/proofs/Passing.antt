@@ -14,13 +14,13 @@ use Rattle.lin_events.specs.lemmas.OneMore.{alternates_before, completes, one_ca
 use Rattle.lin_objects.specs.declared.kinds.Kind.TheVariants.{Mutex}
 use Rattle.lin_objects.specs.declared.states.State.{State}
 use Rattle.lin_objects.specs.Steps.{Step, start}
-use Rattle.lin_orders.specs.declared.placed.Placed.{Placed}
-use Rattle.lin_orders.specs.ConfigurationLaws.{with_event}
-use Rattle.lin_orders.specs.lemmas.Completing.{fail_completes, fail_lem, info_completes, info_lem, ok_completes, ok_lem}
-use Rattle.lin_orders.specs.lemmas.OneEnd.{one_call}
-use Rattle.lin_orders.specs.lemmas.Opening.{open_back}
-use Rattle.lin_orders.specs.lemmas.Quiet.{info_quiet}
-use Rattle.lin_failures.specs.lemmas.Standing.{place_of, step_there}
+use Rattle.lin_order.specs.declared.placed.Placed.{Placed}
+use Rattle.lin_order.specs.ConfigurationLaws.{with_event}
+use Rattle.lin_order.specs.lemmas.Completing.{fail_completes, fail_lem, info_completes, info_lem, ok_completes, ok_lem}
+use Rattle.lin_order.specs.lemmas.OneEnd.{one_call}
+use Rattle.lin_order.specs.lemmas.Opening.{open_back}
+use Rattle.lin_order.specs.lemmas.Quiet.{info_quiet}
+use Rattle.lin_certificates.specs.lemmas.Standing.{place_of, step_there}
 use Rattle.lin_locks.specs.inner.Debts.{Config, IsOfLock, IsPlacedOpen}
 
 -- the one configuration places just what the other does, and has its state

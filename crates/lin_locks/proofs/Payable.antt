@@ -8,7 +8,7 @@ use Rattle.lin_lists.specs.lemmas.Lists.{get_cases, get_left}
 use Rattle.lin_events.specs.declared.calls.Call.{Call}
 use Rattle.lin_events.specs.declared.events.Event.{Event}
 use Rattle.lin_events.specs.Operations.{IsOpen}
-use Rattle.lin_failures.specs.lemmas.Counting.{first_apart, pairs_rest}
+use Rattle.lin_certificates.specs.lemmas.Counting.{first_apart, pairs_rest}
 use Rattle.lin_locks.specs.declared.sides.Debt.{Debt}
 use Rattle.lin_locks.specs.inner.Known.{Part}
 use Rattle.lin_locks.specs.inner.Debts.{AreRising, IsPaid}

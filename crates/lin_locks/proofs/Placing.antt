@@ -16,11 +16,11 @@ use Rattle.lin_objects.specs.declared.kinds.Kind.TheVariants.{Mutex}
 use Rattle.lin_objects.specs.declared.states.State.{State}
 use Rattle.lin_objects.specs.declared.states.State.TheVariants.{Held}
 use Rattle.lin_objects.specs.Steps.{Step, start}
-use Rattle.lin_orders.specs.declared.placed.Placed.{Placed}
-use Rattle.lin_orders.specs.Configurations.{IsPlacing, IsPlacedOn, none, more as further}
-use Rattle.lin_orders.specs.ConfigurationLaws.{with_event}
-use Rattle.lin_orders.specs.lemmas.Invoking.{after_invocation}
-use Rattle.lin_orders.specs.lemmas.Opening.{open_back, open_beside}
+use Rattle.lin_order.specs.declared.placed.Placed.{Placed}
+use Rattle.lin_order.specs.Configurations.{IsPlacing, IsPlacedOn, none, more as further}
+use Rattle.lin_order.specs.ConfigurationLaws.{with_event}
+use Rattle.lin_order.specs.lemmas.Invoking.{after_invocation}
+use Rattle.lin_order.specs.lemmas.Opening.{open_back, open_beside}
 use Rattle.lin_locks.specs.declared.sides.Debt.{Debt}
 use Rattle.lin_locks.specs.inner.Debts.{AreAll, AreOwed, Config, IsBalanced, IsOfLock, IsPlacedOpen, agrees, lock_call}
 use Rattle.lin_locks.proofs.Lists.{all_map, all_with, least_map}

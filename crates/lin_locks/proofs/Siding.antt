@@ -17,10 +17,10 @@ use Rattle.lin_events.specs.Alternation.{IsAlternating}
 use Rattle.lin_events.specs.Operations.{IsFailed, IsOk, IsOpen}
 use Rattle.lin_objects.specs.declared.kinds.Kind.TheVariants.{Mutex}
 use Rattle.lin_objects.specs.Steps.{Step, start}
-use Rattle.lin_orders.specs.ConfigurationLaws.{with_event}
-use Rattle.lin_orders.specs.lemmas.Ending.{start_lem}
-use Rattle.lin_orders.specs.lemmas.Completing.{fail_completes, info_completes, ok_completes}
-use Rattle.lin_orders.specs.lemmas.Opening.{open_back}
+use Rattle.lin_order.specs.ConfigurationLaws.{with_event}
+use Rattle.lin_order.specs.lemmas.Ending.{start_lem}
+use Rattle.lin_order.specs.lemmas.Completing.{fail_completes, info_completes, ok_completes}
+use Rattle.lin_order.specs.lemmas.Opening.{open_back}
 use Rattle.lin_locks.specs.declared.sides.Debt.{Debt}
 use Rattle.lin_locks.specs.inner.Known.{Part}
 use Rattle.lin_locks.specs.inner.Debts.{AreAll, AreOwed, AreRising, Config, IsBalanced, IsOfLock, IsPaid, IsPlacedOpen, lock_call, agrees}

@@ -6,7 +6,7 @@ use Rattle.lin_events.specs.declared.events.Event.{Event}
 use Rattle.lin_events.specs.Operations.{IsEvent}
 use Rattle.lin_events.specs.WellFormed.{IsWellFormed}
 use Rattle.lin_objects.specs.declared.kinds.Kind.TheVariants.{Mutex}
-use Rattle.lin_orders.specs.Linearizable.{IsLinearizableAs}
+use Rattle.lin_order.specs.Linearizable.{IsLinearizableAs}
 use Rattle.lin_locks.specs.declared.locks.Lock.{Lock}
 use Rattle.lin_locks.specs.inner.Changes.{all_undone}
 use Rattle.lin_locks.specs.inner.Known.{Known, known_of}

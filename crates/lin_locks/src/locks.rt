@@ -2,13 +2,13 @@
 ghost use Rattle.std.specs.Prelude.{◌≡◌, ◌+◌, ◌<◌, ℕ, List, IfOk, IsTrue, OnErr, false, min, take};
 ghost use Rattle.lin_events.specs.declared.events.Event.{Event as EventOf};
 ghost use Rattle.lin_objects.specs.declared.kinds.Kind.TheVariants.{Mutex};
-ghost use Rattle.lin_orders.specs.Linearizable.{IsLegalOrderAs, IsLinearizableAs};
+ghost use Rattle.lin_order.specs.Linearizable.{IsLegalOrderAs, IsLinearizableAs};
 ghost use Rattle.lin_locks.specs.Locks.{IsLockOf, IsNextOf, IsStill, reached_in};
 
 use crate::changes::Change;
 use crate::standings::Standing;
 use lin_events::{Event, OutOfMemory};
-use lin_orders::Placed;
+use lin_order::Placed;
 use std::alloc::Global;
 
 /// What is known of the first events of a lock, as long as they have a legal order, and what each of these changed.

@@ -6,7 +6,7 @@ ghost use Rattle.lin_events.specs.declared.calls.Reply.{Reply as ReplyOf};
 ghost use Rattle.lin_events.specs.declared.events.Event.{Event as EventOf};
 ghost use Rattle.lin_events.specs.declared.events.Body.TheVariants.{Invoke as Invokes, Ok as Returns, Fail as FailsOf, Info as Informs};
 ghost use Rattle.lin_objects.specs.declared.kinds.Kind.TheVariants.{Mutex};
-ghost use Rattle.lin_orders.specs.Linearizable.{IsLegalOrderAs};
+ghost use Rattle.lin_order.specs.Linearizable.{IsLegalOrderAs};
 ghost use Rattle.lin_locks.specs.declared.changes.Change.{Change as ChangeOf};
 ghost use Rattle.lin_locks.specs.declared.changes.EndChange.{EndChange as EndOf};
 ghost use Rattle.lin_locks.specs.declared.standings.Turn.TheVariants as Turned;
@@ -22,7 +22,7 @@ use crate::changes::{Change, EndChange};
 use crate::latest::{Latest, Running};
 use crate::sides::{Closed, Debt, Paid, Side, Withdrawal, fill, reorder};
 use lin_events::{Body, Call, Event, OutOfMemory, Reply, well_formed_is_alternating};
-use lin_orders::Placed;
+use lin_order::Placed;
 use std::alloc::Global;
 
 /// What becomes of an operation that returns.

@@ -6,9 +6,9 @@ use Rattle.lin_events.specs.declared.calls.Reply.{Reply}
 use Rattle.lin_events.specs.declared.events.Event.{Event}
 use Rattle.lin_events.specs.Operations.{IsOk}
 use Rattle.lin_events.specs.lemmas.OneMore.{end_before, operation_kept}
-use Rattle.lin_orders.specs.declared.placed.Placed.{Placed}
-use Rattle.lin_orders.specs.ConfigurationLaws.{with_event}
-use Rattle.lin_orders.specs.Orders.{IsBefore}
+use Rattle.lin_order.specs.declared.placed.Placed.{Placed}
+use Rattle.lin_order.specs.ConfigurationLaws.{with_event}
+use Rattle.lin_order.specs.Orders.{IsBefore}
 use Rattle.lin_members.specs.Overwritten.{IsOverwrittenBy}
 use Rattle.lin_members.specs.OverwrittenLaws.{AllowsBeginsLaw, AllowsOnLaw, AllowsPutLaw}
 use Rattle.lin_members.specs.Rounds.{put}

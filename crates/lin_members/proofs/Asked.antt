@@ -11,8 +11,8 @@ use Rattle.lin_events.specs.Alternation.{IsAlternating}
 use Rattle.lin_events.specs.Operations.{IsOpen}
 use Rattle.lin_events.specs.WellFormedLaws.{EndsAreUnique, WellFormedIsAlternating}
 use Rattle.lin_objects.specs.Overwriting.{IsOverwriting}
-use Rattle.lin_orders.specs.Configurations.{IsAdded, IsRising}
-use Rattle.lin_orders.specs.ConfigurationLaws.{with_event, AfterOk, OkLaw}
+use Rattle.lin_order.specs.Configurations.{IsAdded, IsRising}
+use Rattle.lin_order.specs.ConfigurationLaws.{with_event, AfterOk, OkLaw}
 use Rattle.lin_members.specs.declared.members.Path.{Path}
 use Rattle.lin_members.specs.Exchanges.{AreAlike, Exchange, IsExchanged}
 use Rattle.lin_members.specs.Members.{Meets, Member, IsGiven, IsOffered, IsOnOffer, IsReady, IsUpdate}

@@ -1,7 +1,7 @@
 -- Rounds in flat memory: operations that are put, and rounds that are read back from their ends.
 use Rattle.std.proofs.Common.{◌≡◌, ℕ, zero, suc, ◌+◌, ◌<◌, ◌≤◌, List, [], ◌∷◌, ◌++◌, length, length-append, drop, reverse, get_or, set, add-one, refl, sym, ap, subst, ◌∙◌, arith, Option, Some, None}
 use Rattle.std.proofs.lemmas.List.{drop_all, reverse-append, reverse-reverse}
-use Rattle.lin_orders.specs.declared.placed.Placed.{Placed}
+use Rattle.lin_order.specs.declared.placed.Placed.{Placed}
 use Rattle.lin_frontier.specs.Nodes.{Spells, root, node}
 use Rattle.lin_frontier.specs.lemmas.Closing.{spells_more}
 use Rattle.lin_lists.specs.lemmas.Lists.{get_last}

@@ -12,11 +12,11 @@ use Rattle.lin_objects.specs.Overwriting.{IsOverwriting}
 use Rattle.lin_objects.specs.Total.{Reaches}
 use Rattle.lin_lists.specs.lemmas.Lists.{get_cases, get_inside, get_last, get_left}
 use Rattle.lin_events.specs.lemmas.OneMore.{one_call}
-use Rattle.lin_orders.specs.declared.placed.Placed.{Placed}
-use Rattle.lin_orders.specs.Configurations.{IsAdded, IsPlacedBy}
-use Rattle.lin_orders.specs.Linearizable.{Runs}
-use Rattle.lin_orders.specs.Orders.{IsBefore, IsOrder}
-use Rattle.lin_orders.specs.lemmas.Running.{runs_push, runs_reach}
+use Rattle.lin_order.specs.declared.placed.Placed.{Placed}
+use Rattle.lin_order.specs.Configurations.{IsAdded, IsPlacedBy}
+use Rattle.lin_order.specs.Linearizable.{Runs}
+use Rattle.lin_order.specs.Orders.{IsBefore, IsOrder}
+use Rattle.lin_order.specs.lemmas.Running.{runs_push, runs_reach}
 use Rattle.lin_members.specs.Members.{IsWatching}
 use Rattle.lin_members.specs.Overwritten.{AllowsOverwritten, IsEarlyGiven, IsEarlyUpdate, IsOverwrittenBy}
 use Rattle.lin_members.specs.OverwrittenLaws.{AheadLaw}

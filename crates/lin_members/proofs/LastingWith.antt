@@ -9,9 +9,9 @@ use Rattle.lin_events.specs.Alternation.{IsAlternating}
 use Rattle.lin_events.specs.WellFormed.{Completes}
 use Rattle.lin_events.specs.WellFormedLaws.{EndsAreUnique, WellFormedIsAlternating}
 use Rattle.lin_objects.specs.Observing.{IsObserving}
-use Rattle.lin_orders.specs.declared.placed.Placed.{Placed}
-use Rattle.lin_orders.specs.Configurations.{IsPlacedOn}
-use Rattle.lin_orders.specs.ConfigurationLaws.{with_event, FailLaw, InfoLaw, InvocationLaw}
+use Rattle.lin_order.specs.declared.placed.Placed.{Placed}
+use Rattle.lin_order.specs.Configurations.{IsPlacedOn}
+use Rattle.lin_order.specs.ConfigurationLaws.{with_event, FailLaw, InfoLaw, InvocationLaw}
 use Rattle.lin_members.specs.declared.members.Path.{Path}
 use Rattle.lin_members.specs.Covers.{HasCrashed}
 use Rattle.lin_members.specs.Members.{Member}

@@ -10,9 +10,9 @@ use Rattle.lin_events.specs.Alternation.{IsAlternating}
 use Rattle.lin_events.specs.WellFormed.{Completes}
 use Rattle.lin_events.specs.WellFormedLaws.{EndsAreUnique, WellFormedIsAlternating}
 use Rattle.lin_objects.specs.Observing.{IsObserving}
-use Rattle.lin_orders.specs.declared.placed.Placed.{Placed}
-use Rattle.lin_orders.specs.ConfigurationLaws.{with_event, OkLaw}
-use Rattle.lin_orders.specs.Configurations.{IsAdded, IsPlacing, IsRising}
+use Rattle.lin_order.specs.declared.placed.Placed.{Placed}
+use Rattle.lin_order.specs.ConfigurationLaws.{with_event, OkLaw}
+use Rattle.lin_order.specs.Configurations.{IsAdded, IsPlacing, IsRising}
 use Rattle.lin_members.specs.Covers.{Covers, HasCrashed}
 use Rattle.lin_members.specs.Members.{Member, IsOnOffer, IsWatching, IsGiven, here, more, IsReady, WayOf, Leads, IsListed}
 use Rattle.lin_members.specs.MemberLaws.{ListedLaw, ListingLaw, ListingOkLaw}

@@ -20,9 +20,9 @@ use Rattle.lin_objects.specs.declared.states.State.{State}
 use Rattle.lin_objects.specs.declared.states.State.TheVariants.{Value}
 use Rattle.lin_objects.specs.Observing.{observes, observers_keep}
 use Rattle.lin_objects.specs.Steps.{Step, start}
-use Rattle.lin_orders.specs.Configurations.{IsPlacing, IsRising}
-use Rattle.lin_orders.specs.ConfigurationExamples.{of_registers, event}
-use Rattle.lin_orders.specs.ConfigurationLaws.{with_event}
+use Rattle.lin_order.specs.Configurations.{IsPlacing, IsRising}
+use Rattle.lin_order.specs.ConfigurationExamples.{of_registers, event}
+use Rattle.lin_order.specs.ConfigurationLaws.{with_event}
 use Rattle.lin_members.specs.Covers.{HasCrashed}
 use Rattle.lin_members.specs.Members.{Member, IsWatching, IsGiven, Leads, IsComplete, Dominates, here, more}
 use Rattle.lin_members.specs.MemberLaws.{first_member, InvocationKeepsLaw, ObserverSearchLaw, StartCompleteLaw}

@@ -15,7 +15,7 @@ use Rattle.lin_events.specs.Alternation.{IsReturn, IsAlternating}
 use Rattle.lin_events.specs.Names.{name_of}
 use Rattle.lin_events.specs.Operations.{IsEvent, IsOperation, IsEnd}
 use Rattle.lin_events.specs.WellFormed.{Completes}
-use Rattle.lin_orders.specs.ConfigurationExamples.{of_registers, event}
+use Rattle.lin_order.specs.ConfigurationExamples.{of_registers, event}
 use Rattle.lin_members.specs.MemberExamples.{read_returned}
 use Rattle.lin_members.proofs.Searching.{one_event}
 

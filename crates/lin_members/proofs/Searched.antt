@@ -12,8 +12,8 @@ use Rattle.lin_events.specs.Operations.{IsOpen}
 use Rattle.lin_events.specs.WellFormed.{Completes}
 use Rattle.lin_events.specs.WellFormedLaws.{EndsAreUnique, WellFormedIsAlternating}
 use Rattle.lin_events.specs.lemmas.OneMore.{alternates_before}
-use Rattle.lin_orders.specs.Configurations.{IsAdded, IsRising}
-use Rattle.lin_orders.specs.ConfigurationLaws.{with_event, AtStart, OkLaw}
+use Rattle.lin_order.specs.Configurations.{IsAdded, IsRising}
+use Rattle.lin_order.specs.ConfigurationLaws.{with_event, AtStart, OkLaw}
 use Rattle.lin_members.specs.Covers.{HasCrashed}
 use Rattle.lin_members.specs.Members.{Member, IsOnOffer, IsWatching, IsGiven, IsOffered, IsUpdate, WayOf, here, more, LeadsToCover, DominatesAt, Dominates}
 use Rattle.lin_members.specs.Exchanges.{Exchange, IsExchanged}

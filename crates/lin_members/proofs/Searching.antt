@@ -12,8 +12,8 @@ use Rattle.lin_events.specs.WellFormed.{Completes}
 use Rattle.lin_events.specs.WellFormedLaws.{EndsAreUnique}
 use Rattle.lin_lists.specs.lemmas.Lists.{get_last}
 use Rattle.lin_events.specs.lemmas.OneMore.{completes, open_before}
-use Rattle.lin_orders.specs.Configurations.{IsAdded}
-use Rattle.lin_orders.specs.ConfigurationLaws.{with_event}
+use Rattle.lin_order.specs.Configurations.{IsAdded}
+use Rattle.lin_order.specs.ConfigurationLaws.{with_event}
 use Rattle.lin_members.specs.Covers.{HasCrashed}
 use Rattle.lin_members.specs.Exchanges.{Exchange, IsExchanged}
 use Rattle.lin_members.specs.Members.{Member, IsOnOffer, IsWatching, IsGiven, IsUpdate, WayOf, here, more, DominatesAt}

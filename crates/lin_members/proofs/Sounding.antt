@@ -9,9 +9,9 @@ use Rattle.lin_events.specs.declared.events.Event.{Event}
 use Rattle.lin_events.specs.Alternation.{IsAlternating}
 use Rattle.lin_events.specs.WellFormedLaws.{WellFormedIsAlternating}
 use Rattle.lin_objects.specs.Observing.{IsObserving}
-use Rattle.lin_orders.specs.declared.placed.Placed.{Placed}
-use Rattle.lin_orders.specs.Configurations.{EndsIn, IsConfiguration, IsRising}
-use Rattle.lin_orders.specs.ConfigurationLaws.{PlacingIsLegal}
+use Rattle.lin_order.specs.declared.placed.Placed.{Placed}
+use Rattle.lin_order.specs.Configurations.{EndsIn, IsConfiguration, IsRising}
+use Rattle.lin_order.specs.ConfigurationLaws.{PlacingIsLegal}
 use Rattle.lin_members.specs.Members.{IsOnOffer, IsWatching, IsGiven, Way, here, more, IsOffered, IsReady}
 use Rattle.lin_members.specs.Rounds.{joined, put, begin_round, IsOfferedIn, IsTrail}
 use Rattle.lin_members.specs.RoundLaws.{SoundLaw}

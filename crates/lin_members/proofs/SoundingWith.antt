@@ -9,10 +9,10 @@ use Rattle.lin_events.specs.declared.events.Event.{Event}
 use Rattle.lin_events.specs.Alternation.{IsAlternating}
 use Rattle.lin_events.specs.WellFormedLaws.{WellFormedIsAlternating}
 use Rattle.lin_objects.specs.Overwriting.{IsOverwriting}
-use Rattle.lin_orders.specs.declared.placed.Placed.{Placed}
-use Rattle.lin_orders.specs.Configurations.{IsAdded, IsPlacedBy}
-use Rattle.lin_orders.specs.ConfigurationLaws.{PlacingIsLegal}
-use Rattle.lin_orders.specs.Orders.{IsOrder}
+use Rattle.lin_order.specs.declared.placed.Placed.{Placed}
+use Rattle.lin_order.specs.Configurations.{IsAdded, IsPlacedBy}
+use Rattle.lin_order.specs.ConfigurationLaws.{PlacingIsLegal}
+use Rattle.lin_order.specs.Orders.{IsOrder}
 use Rattle.lin_members.specs.declared.members.Path.{Path}
 use Rattle.lin_members.specs.Members.{Member, IsWatching}
 use Rattle.lin_members.specs.Overwritten.{AllowsOverwritten, HasOverwritten, IsEarlyGiven, IsEarlyUpdate, IsOfferedWith, IsOverwrittenBy}

@@ -9,7 +9,7 @@ use Rattle.lin_events.specs.declared.events.Event.{Event}
 use Rattle.lin_events.specs.Alternation.{IsAlternating}
 use Rattle.lin_events.specs.Operations.{IsOpen}
 use Rattle.lin_objects.specs.Overwriting.{IsOverwriting}
-use Rattle.lin_orders.specs.Configurations.{IsRising}
+use Rattle.lin_order.specs.Configurations.{IsRising}
 use Rattle.lin_members.specs.declared.members.Path.{Path}
 use Rattle.lin_members.specs.Covers.{HasCrashed}
 use Rattle.lin_members.specs.Members.{Member, Meets, Way, here, more, IsGiven, IsOffered, IsOnOffer, IsUpdate, DominatesAt}

@@ -13,7 +13,7 @@ use Rattle.lin_events.specs.Operations.{IsOpen}
 use Rattle.lin_objects.specs.Ahead.{IsFirst, Takes}
 use Rattle.lin_objects.specs.GoingFirst.{takes_last}
 use Rattle.lin_objects.specs.lemmas.Counted.{count_no, count_yes, nothing_counted, some_counted}
-use Rattle.lin_orders.specs.Configurations.{IsRising}
+use Rattle.lin_order.specs.Configurations.{IsRising}
 use Rattle.lin_members.specs.Covers.{HasCrashed}
 use Rattle.lin_members.specs.MemberLaws.{IsAheadOfOpen}
 use Rattle.lin_members.specs.Members.{Member, IsOnOffer, LeadsToMember, DominatesAt, Way, here, more}

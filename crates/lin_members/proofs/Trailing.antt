@@ -11,9 +11,9 @@ use Rattle.lin_events.specs.Operations.{IsOpen}
 use Rattle.lin_events.specs.WellFormedLaws.{WellFormedIsAlternating}
 use Rattle.lin_events.specs.lemmas.OneMore.{alternates_before, end_before, one_open, open_kept, open_other, operation_kept}
 use Rattle.lin_objects.specs.Observing.{IsObserving}
-use Rattle.lin_orders.specs.declared.placed.Placed.{Placed}
-use Rattle.lin_orders.specs.Configurations.{EndsIn, IsAdded, IsPlacing}
-use Rattle.lin_orders.specs.ConfigurationLaws.{with_event, AtStart, FailLaw, InfoLaw, InvocationLaw, OkLaw, PlacingIsLegal}
+use Rattle.lin_order.specs.declared.placed.Placed.{Placed}
+use Rattle.lin_order.specs.Configurations.{EndsIn, IsAdded, IsPlacing}
+use Rattle.lin_order.specs.ConfigurationLaws.{with_event, AtStart, FailLaw, InfoLaw, InvocationLaw, OkLaw, PlacingIsLegal}
 use Rattle.lin_members.specs.Members.{Member}
 use Rattle.lin_members.specs.Rounds.{joined, put, begin_round, IsOfferedIn, IsTrail, IsTrailOf}
 use Rattle.lin_members.specs.RoundLaws.{IsOfferFrom, OffersFrom, TrailStartLaw, TrailEndsLaw, FewerLaw, TrailPlacesLaw, TrailTakesLaw, TrailInvocationLaw, TrailInfoLaw, TrailFailLaw, TrailOkLaw, TrailObserverLaw, TrailReturnLaw, ExactLaw}

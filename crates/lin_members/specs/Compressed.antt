@@ -3,9 +3,9 @@ use Rattle.std.specs.Prelude.{◌≡◌, ℕ, suc, Bool, true, List, length, All
 use Rattle.lin_events.specs.declared.calls.Call.{Call}
 use Rattle.lin_events.specs.declared.calls.Reply.{Reply}
 use Rattle.lin_events.specs.declared.events.Event.{Event}
-use Rattle.lin_orders.specs.declared.placed.Placed.{Placed}
-use Rattle.lin_orders.specs.Configurations.{IsConfiguration}
-use Rattle.lin_orders.specs.Linearizable.{IsLegalOrderBy}
+use Rattle.lin_order.specs.declared.placed.Placed.{Placed}
+use Rattle.lin_order.specs.Configurations.{IsConfiguration}
+use Rattle.lin_order.specs.Linearizable.{IsLegalOrderBy}
 use Rattle.lin_members.specs.declared.members.Path.{Path}
 use Rattle.lin_members.specs.Members.{Member}
 use Rattle.lin_members.specs.Overwritten.{AllowsOverwritten, IsAbove, IsCompleteFor, LeadsFor}

@@ -6,7 +6,7 @@ use Rattle.lin_events.specs.declared.calls.Call.{Call}
 use Rattle.lin_events.specs.declared.calls.Reply.{Reply}
 use Rattle.lin_events.specs.declared.events.Event.{Event}
 use Rattle.lin_events.specs.Operations.{IsOpen}
-use Rattle.lin_orders.specs.Configurations.{IsRising}
+use Rattle.lin_order.specs.Configurations.{IsRising}
 use Rattle.lin_members.specs.Covers.{HasCrashed}
 
 -- both processes crashed, in operations that have the same call

@@ -13,9 +13,9 @@ use Rattle.lin_objects.specs.declared.states.State.{State}
 use Rattle.lin_objects.specs.declared.states.State.TheVariants.{Value}
 use Rattle.lin_objects.specs.Steps.{Step, start}
 use Rattle.lin_objects.specs.Observing.{observes}
-use Rattle.lin_orders.specs.declared.placed.Placed.{Placed}
-use Rattle.lin_orders.specs.ConfigurationExamples.{of_registers, event}
-use Rattle.lin_orders.specs.ConfigurationLaws.{with_event}
+use Rattle.lin_order.specs.declared.placed.Placed.{Placed}
+use Rattle.lin_order.specs.ConfigurationExamples.{of_registers, event}
+use Rattle.lin_order.specs.ConfigurationLaws.{with_event}
 use Rattle.lin_members.specs.Covers.{Covers, HasCrashed}
 use Rattle.lin_members.specs.Members.{Leads, IsComplete, Dominates}
 use Rattle.lin_members.specs.MemberLaws.{first_member}

@@ -11,9 +11,9 @@ use Rattle.lin_events.specs.Operations.{IsCrashed, IsOpen}
 use Rattle.lin_events.specs.WellFormed.{IsWellFormed, Completes}
 use Rattle.lin_objects.specs.Ahead.{IsFirst, Takes}
 use Rattle.lin_objects.specs.Observing.{IsObserving}
-use Rattle.lin_orders.specs.declared.placed.Placed.{Placed}
-use Rattle.lin_orders.specs.ConfigurationLaws.{with_event}
-use Rattle.lin_orders.specs.Configurations.{IsAdded, IsPlacing, IsRising}
+use Rattle.lin_order.specs.declared.placed.Placed.{Placed}
+use Rattle.lin_order.specs.ConfigurationLaws.{with_event}
+use Rattle.lin_order.specs.Configurations.{IsAdded, IsPlacing, IsRising}
 use Rattle.lin_members.specs.Covers.{HasCrashed}
 use Rattle.lin_members.specs.Exchanges.{Exchange, IsExchanged}
 use Rattle.lin_members.specs.Members.{Member, IsOnOffer, IsWatching, IsGiven, IsUpdate, Leads, LeadsToCover, LeadsToMember, IsComplete, IsListed, IsListing, DominatesAt, Dominates, DominatesBut, IsDominated}

@@ -6,8 +6,8 @@ use Rattle.lin_events.specs.declared.calls.Call.{Call}
 use Rattle.lin_events.specs.declared.calls.Reply.{Reply}
 use Rattle.lin_events.specs.declared.events.Event.{Event}
 use Rattle.lin_events.specs.Operations.{IsOpen}
-use Rattle.lin_orders.specs.declared.placed.Placed.{Placed}
-use Rattle.lin_orders.specs.Configurations.{IsRising, IsConfiguration, IsPlacing}
+use Rattle.lin_order.specs.declared.placed.Placed.{Placed}
+use Rattle.lin_order.specs.Configurations.{IsRising, IsConfiguration, IsPlacing}
 use Rattle.lin_members.specs.Covers.{Covers, HasCrashed}
 use Rattle.lin_members.specs.Exchanges.{Exchange, IsExchanged}
 

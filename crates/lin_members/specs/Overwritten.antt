@@ -7,9 +7,9 @@ use Rattle.lin_events.specs.declared.calls.Call.{Call}
 use Rattle.lin_events.specs.declared.calls.Reply.{Reply}
 use Rattle.lin_events.specs.declared.events.Event.{Event}
 use Rattle.lin_events.specs.Operations.{IsOpen}
-use Rattle.lin_orders.specs.declared.placed.Placed.{Placed}
-use Rattle.lin_orders.specs.Configurations.{IsConfiguration, IsRising}
-use Rattle.lin_orders.specs.Orders.{IsBefore, IsCall}
+use Rattle.lin_order.specs.declared.placed.Placed.{Placed}
+use Rattle.lin_order.specs.Configurations.{IsConfiguration, IsRising}
+use Rattle.lin_order.specs.Orders.{IsBefore, IsCall}
 use Rattle.lin_members.specs.declared.members.Path.{Path}
 use Rattle.lin_members.specs.Exchanges.{Exchange, IsExchanged}
 use Rattle.lin_members.specs.Members.{Member, Dominates, IsComplete, IsGiven, IsOnOffer, IsReady, Leads, Meets, Way}

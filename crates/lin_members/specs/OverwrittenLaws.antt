@@ -12,9 +12,9 @@ use Rattle.lin_events.specs.WellFormed.{IsWellFormed}
 use Rattle.lin_objects.specs.Observing.{IsObserving}
 use Rattle.lin_objects.specs.Overwriting.{IsOverwriting}
 use Rattle.lin_objects.specs.Total.{Reaches}
-use Rattle.lin_orders.specs.declared.placed.Placed.{Placed}
-use Rattle.lin_orders.specs.ConfigurationLaws.{with_event}
-use Rattle.lin_orders.specs.Configurations.{IsAdded, IsConfiguration}
+use Rattle.lin_order.specs.declared.placed.Placed.{Placed}
+use Rattle.lin_order.specs.ConfigurationLaws.{with_event}
+use Rattle.lin_order.specs.Configurations.{IsAdded, IsConfiguration}
 use Rattle.lin_members.specs.declared.members.Path.{Path}
 use Rattle.lin_members.specs.Exchanges.{AreAlike}
 use Rattle.lin_members.specs.Members.{Member, DominatesAt, IsComplete, IsGiven, IsOnOffer, IsWatching}

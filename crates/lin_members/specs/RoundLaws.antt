@@ -10,9 +10,9 @@ use Rattle.lin_events.specs.declared.events.Event.{Event}
 use Rattle.lin_events.specs.Operations.{IsOpen}
 use Rattle.lin_events.specs.WellFormed.{IsWellFormed}
 use Rattle.lin_objects.specs.Observing.{IsObserving}
-use Rattle.lin_orders.specs.declared.placed.Placed.{Placed}
-use Rattle.lin_orders.specs.ConfigurationLaws.{with_event}
-use Rattle.lin_orders.specs.Configurations.{EndsIn, IsAdded, IsConfiguration, IsPlacing}
+use Rattle.lin_order.specs.declared.placed.Placed.{Placed}
+use Rattle.lin_order.specs.ConfigurationLaws.{with_event}
+use Rattle.lin_order.specs.Configurations.{EndsIn, IsAdded, IsConfiguration, IsPlacing}
 use Rattle.lin_members.specs.Members.{Member, IsWatching, IsGiven, Leads, IsComplete}
 use Rattle.lin_members.specs.MemberLaws.{first_member}
 use Rattle.lin_members.specs.Rounds.{joined, put, begin_round, IsTrailOf}

@@ -7,10 +7,10 @@ use Rattle.lin_events.specs.declared.calls.Call.{Call}
 use Rattle.lin_events.specs.declared.calls.Reply.{Reply}
 use Rattle.lin_events.specs.declared.events.Event.{Event}
 use Rattle.lin_events.specs.Operations.{IsOpen}
-use Rattle.lin_orders.specs.declared.placed.Placed.{Placed}
-use Rattle.lin_orders.specs.Configurations.{IsPlacedBy}
-use Rattle.lin_orders.specs.Linearizable.{Runs}
-use Rattle.lin_orders.specs.Orders.{IsBefore, IsOrder}
+use Rattle.lin_order.specs.declared.placed.Placed.{Placed}
+use Rattle.lin_order.specs.Configurations.{IsPlacedBy}
+use Rattle.lin_order.specs.Linearizable.{Runs}
+use Rattle.lin_order.specs.Orders.{IsBefore, IsOrder}
 use Rattle.lin_members.specs.Members.{Member}
 
 -- the order that the rounds spell

@@ -1,13 +1,13 @@
 //! Rounds in flat memory, so that they take few growths however many they are.
 ghost use Rattle.std.specs.Prelude.{◌≡◌, ◌+◌, ◌-◌, ◌<◌, ◌∷◌, ◌++◌, [], ℕ, List, Option, Some, length, slice_get, reverse, IfOk, IfSome, IfNone, OnOk};
-ghost use Rattle.lin_orders.specs.declared.placed.Placed.{Placed as PlacedOf};
+ghost use Rattle.lin_order.specs.declared.placed.Placed.{Placed as PlacedOf};
 ghost use Rattle.lin_frontier.specs.Nodes.{Spells};
 ghost use Rattle.lin_members.specs.Rounds.{joined as joined_of, ahead as ahead_of, place as place_in};
 ghost use Rattle.lin_members.specs.Searching.{in_rounds as in_rounds_of};
 ghost use Rattle.lin_members.specs.inner.Chains.{AreChained};
 
 use lin_events::OutOfMemory;
-use lin_orders::Placed;
+use lin_order::Placed;
 use std::alloc::Global;
 
 /// Rounds: each operation is linked to the one before it in its round, and each round is known by its last operation.

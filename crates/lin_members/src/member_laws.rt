@@ -3,7 +3,7 @@ ghost use Rattle.lin_members.specs.MemberLaws.{CrashedLaw, DominationLaw, Droppi
 
 use lin_events::{ends_are_unique, well_formed_is_alternating};
 use lin_objects::SeqObject;
-use lin_orders::{configurations_after_events, configurations_at_start};
+use lin_order::{configurations_after_events, configurations_at_start};
 
 /// A process has crashed where its open operation has.
 pub fn processes_crash_with_operations()

@@ -14,7 +14,7 @@ use crate::rounds::RoundNodes;
 use lin_events::{OutOfMemory, Reply};
 use lin_frontier::{Config, Pending, copy_config, copy_without};
 use lin_objects::SeqObject;
-use lin_orders::Placed;
+use lin_order::Placed;
 use std::alloc::Global;
 use std::hash::Hash;
 use std::marker::Model;

@@ -3,7 +3,7 @@ ghost use Rattle.lin_members.specs.OverwrittenLaws.{AboveLaw, AheadLaw, AllowsBe
 
 use lin_events::{ends_are_unique, well_formed_is_alternating};
 use lin_objects::SeqObject;
-use lin_orders::{configurations_after_events, placing_is_legal};
+use lin_order::{configurations_after_events, placing_is_legal};
 
 /// Members that others are above can be dropped; and where no update is early enough to be overwritten, members lead to all
 /// configurations just where they do so alone.

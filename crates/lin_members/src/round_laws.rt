@@ -3,7 +3,7 @@ ghost use Rattle.lin_members.specs.RoundLaws.{ExactLaw, FewerLaw, SoundLaw, Trai
 
 use lin_events::well_formed_is_alternating;
 use lin_objects::SeqObject;
-use lin_orders::{configurations_after_events, configurations_at_start, placing_is_legal};
+use lin_order::{configurations_after_events, configurations_at_start, placing_is_legal};
 
 /// The rounds of a member spell a legal order that ends in it, and they do so with fewer offers; before any event there is one round.
 pub fn rounds_spell_members<O: SeqObject>(object: &O)

@@ -1,13 +1,13 @@
 //! Back links with rounds: orders that share their beginnings, and into whose earlier rounds operations can still be put.
 ghost use Rattle.std.specs.Prelude.{◌≡◌, ◌+◌, ◌-◌, ◌<◌, ◌∷◌, ◌++◌, [], ℕ, List, Option, Some, length, take, slice_get, reverse, IfOk, IfSome, IfNone, OnOk, OnErr};
-ghost use Rattle.lin_orders.specs.declared.placed.Placed.{Placed as PlacedOf};
+ghost use Rattle.lin_order.specs.declared.placed.Placed.{Placed as PlacedOf};
 ghost use Rattle.lin_frontier.specs.Nodes.{Spells};
 ghost use Rattle.lin_members.specs.Rounds.{joined as joined_of, SpellsRounds};
 
 use crate::chains::Chains;
 use lin_events::OutOfMemory;
 use lin_frontier::NodeId;
-use lin_orders::Placed;
+use lin_order::Placed;
 use std::alloc::Global;
 use std::marker::Model;
 
@@ -29,7 +29,7 @@ struct Link {
 
 impl Model for Link {
     ghost use Rattle.std.specs.Prelude.{ℕ, Option};
-    ghost use Rattle.lin_orders.specs.declared.placed.Placed.{Placed as PlacedOf};
+    ghost use Rattle.lin_order.specs.declared.placed.Placed.{Placed as PlacedOf};
     ghost use Rattle.lin_members.specs.inner.Searching.{round_at};
 
     ghost Value = { ℕ × (PlacedOf × Option ℕ) };
@@ -80,7 +80,7 @@ impl Link {
 
 impl Model for RoundNodes {
     ghost use Rattle.std.specs.Prelude.{ℕ, List, Option};
-    ghost use Rattle.lin_orders.specs.declared.placed.Placed.{Placed as PlacedOf};
+    ghost use Rattle.lin_order.specs.declared.placed.Placed.{Placed as PlacedOf};
 
     ghost Value = { List (ℕ × (PlacedOf × Option ℕ)) };
 

@@ -10,14 +10,14 @@ use Rattle.lin_events.specs.declared.events.Event.{Event}
 use Rattle.lin_events.specs.Operations.{IsEvent}
 use Rattle.lin_objects.specs.declared.kinds.Kind.{Kind}
 use Rattle.lin_objects.specs.declared.states.State.{State}
-use Rattle.lin_orders.specs.Configurations.{IsAdded}
+use Rattle.lin_order.specs.Configurations.{IsAdded}
 use Rattle.lin_order.specs.Refutations.{Config, HoldsLeft, IsClosed, IsLeft}
 use Rattle.lin_order.specs.inner.Checking.{AreOpen, AreSame, Follows, HoldsLeftOf, HoldsPlacing, HoldsSteps, HoldsWith}
-use Rattle.lin_orders.specs.Sameness.{config_eq, config_Decides}
+use Rattle.lin_order.specs.Sameness.{config_eq, config_Decides}
 use Rattle.lin_lists.specs.lemmas.Elements.{all_of, nothing_in}
-use Rattle.lin_orders.specs.lemmas.OneEnd.{one_event}
+use Rattle.lin_order.specs.lemmas.OneEnd.{one_event}
 use Rattle.lin_order.proofs.Pairs.{one_added, one_without}
-use Rattle.lin_orders.specs.lemmas.Prefixes.{get_from_take, get_of_take}
+use Rattle.lin_order.specs.lemmas.Prefixes.{get_from_take, get_of_take}
 
 -- the members once one more is put in
 pub members_more : (xs old new : List Config) (x : Config) (was is : Config → Bool) → ((c : Config) → IsTrue (was c) ↔ Contains old c) → ((c : Config) → IsTrue (is c) ↔ Contains new c)

@@ -10,15 +10,15 @@ use Rattle.lin_events.specs.declared.events.Event.{Event}
 use Rattle.lin_events.specs.Alternation.{IsAlternating}
 use Rattle.lin_objects.specs.declared.kinds.Kind.{Kind}
 use Rattle.lin_objects.specs.Steps.{Step, start}
-use Rattle.lin_orders.specs.Configurations.{EndsIn, IsConfiguration, IsRising}
-use Rattle.lin_orders.specs.ConfigurationLaws.{with_event}
-use Rattle.lin_orders.specs.Linearizable.{IsLegalOrderBy, IsLinearizableBy}
+use Rattle.lin_order.specs.Configurations.{EndsIn, IsConfiguration, IsRising}
+use Rattle.lin_order.specs.ConfigurationLaws.{with_event}
+use Rattle.lin_order.specs.Linearizable.{IsLegalOrderBy, IsLinearizableBy}
 use Rattle.lin_order.specs.Refutations.{AreConfigurations, Config, IsLeft, IsRefutation, IsSet}
 use Rattle.lin_lists.specs.lemmas.Elements.{all_of}
-use Rattle.lin_orders.specs.lemmas.Placing.{placing_lem}
-use Rattle.lin_orders.specs.lemmas.Invoking.{after_invocation}
-use Rattle.lin_orders.specs.lemmas.Completing.{ok_lem, fail_lem, info_lem}
-use Rattle.lin_orders.specs.lemmas.Ending.{start_lem}
+use Rattle.lin_order.specs.lemmas.Placing.{placing_lem}
+use Rattle.lin_order.specs.lemmas.Invoking.{after_invocation}
+use Rattle.lin_order.specs.lemmas.Completing.{ok_lem, fail_lem, info_lem}
+use Rattle.lin_order.specs.lemmas.Ending.{start_lem}
 use Rattle.lin_order.proofs.Refuting.{there_is, one_further}
 
 none_if_nothing : {A : Type 0} (xs : List A) → ((x : A) → Contains xs x → ⊥) → xs ≡ []

@@ -13,11 +13,11 @@ use Rattle.lin_events.specs.declared.events.Body.TheVariants.{Invoke, Ok, Fail, 
 use Rattle.lin_events.specs.declared.events.Event.{Event}
 use Rattle.lin_events.specs.Operations.{IsEvent, IsEnd, IsOpen, IsOperation}
 use Rattle.lin_order.specs.inner.Checking.{AreOpen, IsOpenAt, IsReturning}
-use Rattle.lin_orders.specs.lemmas.Lists.{take_more}
+use Rattle.lin_order.specs.lemmas.Lists.{take_more}
 use Rattle.lin_lists.specs.lemmas.Elements.{nothing_in}
-use Rattle.lin_orders.specs.lemmas.OneEnd.{one_end, one_ending}
+use Rattle.lin_order.specs.lemmas.OneEnd.{one_end, one_ending}
 use Rattle.lin_events.specs.lemmas.OneMore.{open_before}
-use Rattle.lin_orders.specs.lemmas.Prefixes.{get_from_take, get_of_take, end_whole}
+use Rattle.lin_order.specs.lemmas.Prefixes.{get_from_take, get_of_take, end_whole}
 use Rattle.lin_order.proofs.Refuting.{there_is, one_further}
 
 ok_returns : (body : Body) (name : Name) (reply : Reply) → body ≡ Ok name reply → IsReturning body

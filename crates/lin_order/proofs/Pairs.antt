@@ -5,9 +5,9 @@ use Rattle.std.proofs.lemmas.List.Elements.{All-contains, filter_more, Contains-
 use Rattle.std.proofs.lemmas.List.Kept.{AllPairs-filter}
 use Rattle.std.proofs.lemmas.Bool.{cases_eq, cases_Bool, cond-true, cond-false}
 use Rattle.lin_events.specs.declared.calls.Reply.{Reply}
-use Rattle.lin_orders.specs.Configurations.{IsRising, IsAdded}
-use Rattle.lin_orders.specs.lemmas.Adding.{add_alone, add_first, add_later, one_rising, rest_rising}
-use Rattle.lin_orders.specs.lemmas.Each.{read_any, pairs_more}
+use Rattle.lin_order.specs.Configurations.{IsRising, IsAdded}
+use Rattle.lin_order.specs.lemmas.Adding.{add_alone, add_first, add_later, one_rising, rest_rising}
+use Rattle.lin_order.specs.lemmas.Each.{read_any, pairs_more}
 use Rattle.lin_lists.specs.lemmas.Elements.{begins_other, other_true, other_from, in_filter, from_filter, first_or_rest}
 
 -- no pair is of the process

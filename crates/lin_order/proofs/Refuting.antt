@@ -12,16 +12,16 @@ use Rattle.lin_events.specs.Alternation.{IsAlternating}
 use Rattle.lin_events.specs.Operations.{IsEvent}
 use Rattle.lin_objects.specs.declared.kinds.Kind.{Kind}
 use Rattle.lin_objects.specs.Steps.{Step, start}
-use Rattle.lin_orders.specs.declared.placed.Placed.{Placed}
-use Rattle.lin_orders.specs.Linearizable.{IsLinearizableBy}
-use Rattle.lin_orders.specs.Configurations.{IsConfiguration, IsPlacedOn, none, more}
-use Rattle.lin_orders.specs.ConfigurationLaws.{with_event}
+use Rattle.lin_order.specs.declared.placed.Placed.{Placed}
+use Rattle.lin_order.specs.Linearizable.{IsLinearizableBy}
+use Rattle.lin_order.specs.Configurations.{IsConfiguration, IsPlacedOn, none, more}
+use Rattle.lin_order.specs.ConfigurationLaws.{with_event}
 use Rattle.lin_order.specs.Refutations.{Config, IsSet, IsClosed, IsLeft, IsRefutation}
 use Rattle.lin_lists.specs.lemmas.Elements.{nothing_in}
 use Rattle.lin_events.specs.lemmas.OneMore.{alternates_before}
-use Rattle.lin_orders.specs.lemmas.Invoking.{after_invocation}
-use Rattle.lin_orders.specs.lemmas.Completing.{ok_lem, fail_lem, info_lem}
-use Rattle.lin_orders.specs.lemmas.Ending.{start_lem, ends}
+use Rattle.lin_order.specs.lemmas.Invoking.{after_invocation}
+use Rattle.lin_order.specs.lemmas.Completing.{ok_lem, fail_lem, info_lem}
+use Rattle.lin_order.specs.lemmas.Ending.{start_lem, ends}
 
 -- what stands at a position inside
 pub there_is : {A : Type 0} (xs : List A) (n : ℕ) → n < length xs → (x : A) × (slice_get xs n ≡ Some x)

@@ -10,7 +10,7 @@ use Rattle.lin_order.specs.Refutations.{AreRising, Config, IsClosed, IsRefutatio
 use Rattle.lin_order.specs.inner.Checking.{Follows, IsCarried, IsFramed}
 use Rattle.std.proofs.lemmas.List.Elements.{All-contains}
 use Rattle.lin_lists.specs.lemmas.Elements.{all_of}
-use Rattle.lin_orders.specs.lemmas.OneEnd.{one_event}
+use Rattle.lin_order.specs.lemmas.OneEnd.{one_event}
 use Rattle.lin_order.proofs.Refuting.{there_is}
 
 -- the sets follow each other up to the event with this position

@@ -1,3 +1,15 @@
 pub mod Refutations
 pub mod RefutationLaws
 pub mod inner
+pub mod Orders
+pub mod Parts
+pub mod Linearizable
+pub mod Tables
+pub mod Configurations
+pub mod ConfigurationLaws
+pub mod ConfigurationExamples
+pub mod Laws
+pub mod PartLaws
+pub mod Merging
+pub mod Sameness
+pub mod lemmas

@@ -6,7 +6,7 @@ use Rattle.lin_events.specs.declared.events.Event.{Event}
 use Rattle.lin_events.specs.WellFormed.{IsWellFormed}
 use Rattle.lin_objects.specs.declared.kinds.Kind.{Kind}
 use Rattle.lin_objects.specs.Steps.{Step, start}
-use Rattle.lin_orders.specs.Linearizable.{IsLinearizableBy}
+use Rattle.lin_order.specs.Linearizable.{IsLinearizableBy}
 use Rattle.lin_order.specs.Refutations.{AreConfigurations, Config, IsRefutation, IsSet}
 
 -- a well-formed history that has a refutation is not linearizable

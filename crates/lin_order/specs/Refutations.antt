@@ -10,9 +10,9 @@ use Rattle.lin_events.specs.Operations.{IsEvent}
 use Rattle.lin_objects.specs.declared.kinds.Kind.{Kind}
 use Rattle.lin_objects.specs.declared.states.State.{State}
 use Rattle.lin_objects.specs.Steps.{Step, start}
-use Rattle.lin_orders.specs.declared.placed.Placed.{Placed}
+use Rattle.lin_order.specs.declared.placed.Placed.{Placed}
 use Rattle.lin_order.specs.declared.refutations.Refutation.{Refutation}
-use Rattle.lin_orders.specs.Configurations.{IsConfiguration, IsRising, IsAdded, IsPlacing}
+use Rattle.lin_order.specs.Configurations.{IsConfiguration, IsRising, IsAdded, IsPlacing}
 
 -- a state, and open operations that are placed, by process, with their replies
 abbrev pub Config : Type 0

@@ -1,1 +1,3 @@
 pub mod Checking
+pub mod Merging
+pub mod Tables

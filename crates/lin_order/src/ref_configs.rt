@@ -5,8 +5,8 @@ ghost use Rattle.std.specs.Hash as fed;
 ghost use Rattle.std.specs.List.{fold};
 ghost use Rattle.std.specs.Hash.{same_Alike};
 ghost use Rattle.lin_events.specs.declared.calls.Reply.{Reply as ReplyOf};
-ghost use Rattle.lin_orders.specs.Configurations.{IsAdded, IsRising};
-ghost use Rattle.lin_orders.specs.Sameness.{config_Decides, config_eq};
+ghost use Rattle.lin_order.specs.Configurations.{IsAdded, IsRising};
+ghost use Rattle.lin_order.specs.Sameness.{config_Decides, config_eq};
 
 use lin_events::{OutOfMemory, Reply};
 use lin_objects::State;

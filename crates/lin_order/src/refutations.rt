@@ -5,17 +5,17 @@ ghost use Rattle.lin_events.specs.declared.events.Event.{Event as EventOf};
 ghost use Rattle.lin_events.specs.Operations.{IsEvent};
 ghost use Rattle.lin_objects.specs.Steps.{start};
 ghost use Rattle.lin_order.specs.inner.Checking.{AreOpen, AreSame, Follows, HoldsLeftOf, HoldsPlacing, HoldsSteps, HoldsWith, IsCarried, IsFramed, IsOpenAt, IsReturning};
-ghost use Rattle.lin_orders.specs.Configurations.{IsRising};
+ghost use Rattle.lin_order.specs.Configurations.{IsRising};
 ghost use Rattle.lin_order.specs.RefutationLaws.{ExactSetsRefute, RefutationsExcludeOrders};
 ghost use Rattle.lin_order.specs.Refutations.{AreRising, HoldsLeft, IsClosed, IsRefutation, lists_of, sets_of};
-ghost use Rattle.lin_orders.specs.Tables.{IsNextTable};
+ghost use Rattle.lin_order.specs.Tables.{IsNextTable};
 
+use crate::operations::{end_of, ends_of};
 use crate::ref_configs::{RefConfig, is_absent, is_placed, is_rising, with_pair, without_pair};
 use lin_events::{
     Body, Call, Event, OutOfMemory, Reply, beginnings_are_well_formed, well_formed_is_alternating,
 };
 use lin_objects::{Any, Kind, SeqObject, State};
-use lin_orders::{end_of, ends_of};
 use std::alloc::Global;
 use std::collections::HashSet;
 

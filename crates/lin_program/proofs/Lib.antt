@@ -1,1 +1,3 @@
 mod Runs
+mod Found
+mod Orders

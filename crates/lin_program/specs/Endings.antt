@@ -11,10 +11,10 @@ use Rattle.lin_texts.specs.declared.status.Status.{Status}
 use Rattle.lin_texts.specs.declared.faults.RunFault.{RunFault}
 use Rattle.lin_texts.specs.declared.faults.RunFault.TheVariants.{ReadFailed, OutOfMemory}
 use Rattle.lin_texts.specs.declared.settings.Settings.{Settings}
-use Rattle.lin_line.specs.declared.words.Line.{Line}
-use Rattle.lin_line.specs.declared.words.Line.TheVariants.{Check, Explain, Draw, Verify, Edit}
-use Rattle.lin_line.specs.declared.words.OrderSource.{OrderSource}
-use Rattle.lin_line.specs.declared.words.OrderSource.TheVariants.{Given, InFile}
+use Rattle.lin_program.specs.declared.words.Line.{Line}
+use Rattle.lin_program.specs.declared.words.Line.TheVariants.{Check, Explain, Draw, Verify, Edit}
+use Rattle.lin_program.specs.declared.words.OrderSource.{OrderSource}
+use Rattle.lin_program.specs.declared.words.OrderSource.TheVariants.{Given, InFile}
 use Rattle.lin_program.specs.Exit.{SystemWords, exit_status}
 use Rattle.lin_program.specs.Reporting.{AreAmong, AreReported, Holds, IsNotOpened, stopped}
 use Rattle.lin_report.specs.declared.formats.ReportFormat.TheVariants.{Text}

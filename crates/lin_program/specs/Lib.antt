@@ -3,3 +3,4 @@ pub mod Exit
 pub mod Program
 pub mod Reporting
 pub mod Tasks
+pub mod CommandLine

@@ -5,8 +5,8 @@ use Rattle.std.specs.declared.io.ErrorKind.TheVariants as io_kind
 use Rattle.clap.specs.Words.{Text, kind_of}
 use Rattle.clap.specs.declared.error.Error.{Error}
 use Rattle.clap.specs.declared.error.kind.ErrorKind.TheVariants.{OutOfMemory}
-use Rattle.lin_line.specs.CommandLine.{IsLineOf, IsRefusalOf}
-use Rattle.lin_line.specs.declared.words.Line.{Line}
+use Rattle.lin_program.specs.CommandLine.{IsLineOf, IsRefusalOf}
+use Rattle.lin_program.specs.declared.words.Line.{Line}
 use Rattle.lin_program.specs.Endings.{Ends}
 use Rattle.lin_program.specs.Exit.{SystemWords, refusal_status}
 use Rattle.lin_program.specs.declared.system.Message.{Message}

@@ -10,8 +10,8 @@ use Rattle.lin_formats.specs.Verdicts.{IsVerifyRun}
 use Rattle.lin_texts.specs.declared.status.Status.{Status}
 use Rattle.lin_texts.specs.declared.faults.RunFault.{RunFault}
 use Rattle.lin_texts.specs.declared.settings.Settings.{Settings}
-use Rattle.lin_line.specs.declared.words.Format.{Format}
-use Rattle.lin_line.specs.declared.words.Format.TheVariants.{Text, Json}
+use Rattle.lin_program.specs.declared.words.Format.{Format}
+use Rattle.lin_program.specs.declared.words.Format.TheVariants.{Text, Json}
 use Rattle.lin_program.specs.declared.tasks.Task.{Task}
 use Rattle.lin_program.specs.declared.tasks.Task.TheVariants.{Check, Explain, Draw, Verify}
 

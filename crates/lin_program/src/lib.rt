@@ -1,4 +1,4 @@
-//! The program on any system: runs of a command line's words, what it tells, and the exit statuses with which it ends.
+//! The program on any system: what the words of a command line say, runs of them, what it tells, and the exit statuses with which it ends.
 #![tactic(auto)]
 
 ghost use Rattle.std.specs.Prelude.{◌≡◌, [], map, option_map};
@@ -8,17 +8,23 @@ ghost use Rattle.lin_program.specs.Program.{EndsOnWords, EndsWithoutWords};
 ghost use Rattle.lin_program.specs.Reporting.{AreAmong};
 ghost use Rattle.lin_program.specs.Tasks.{HasBudget};
 
+mod command;
+mod command_line;
 mod endings;
+mod misuse;
 mod orders;
 mod reporting;
+mod said;
 mod system;
 mod tasks;
+mod version;
+mod words;
 
 use clap::error::ErrorKind;
-use endings::{FAILED, LINE_REFUSED, Stop, stopped};
+pub use command_line::line;
 pub use endings::{exit_of, exit_of_refusal};
+use endings::{FAILED, LINE_REFUSED, Stop, stopped};
 use lin_formats::{Counted, Refusal, RunFault, Settings, Status, refusal_words};
-use lin_line::{Line, OrderSource, line};
 use lin_report::{Question, run as edit};
 use orders::{bytes_in, without_line_end};
 use reporting::report_all;
@@ -27,6 +33,7 @@ use std::io;
 use std::io::Read;
 pub use system::{Message, System};
 use tasks::{Task, report_format};
+pub use words::{Format, Line, OrderSource};
 
 /// What is to be told of a line's files, beside what is found.
 #[derive(Drop)]

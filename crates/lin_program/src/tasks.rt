@@ -4,9 +4,9 @@ ghost use Rattle.lin_formats.specs.Devices.{device_of, failures_of, Counts};
 ghost use Rattle.lin_formats.specs.Verdicts.{is_write_failed};
 ghost use Rattle.lin_program.specs.Tasks.{HasBudget, IsTaskRun, format_among, heading_in, heading_of, report_format as format_of, settings_of, task_among};
 
+use crate::words::Format;
 use lin_formats::{Counted, RunFault, Settings, Status, verify};
 use lin_json::put_file_front;
-use lin_line::ReportFormat;
 use lin_names::Said;
 use lin_report::{Question, check, draw, explain};
 use std::alloc::{AllocError, Global};
@@ -99,11 +99,11 @@ fn put_heading_in(
 }
 
 /// The way of printing that a command line names.
-pub fn report_format(format: ReportFormat) -> lin_report::ReportFormat
+pub fn report_format(format: Format) -> lin_report::ReportFormat
     ensures { result ≡ format_of format }
 {
     match format {
-        ReportFormat::Text => lin_report::ReportFormat::Text,
-        ReportFormat::Json => lin_report::ReportFormat::Json,
+        Format::Text => lin_report::ReportFormat::Text,
+        Format::Json => lin_report::ReportFormat::Json,
     }
 }

@@ -10,23 +10,23 @@ use Rattle.lin_events.specs.declared.calls.Name.{Name}
 use Rattle.lin_events.specs.declared.calls.Reply.{Reply}
 use Rattle.lin_events.specs.declared.calls.Reply.TheVariants.{Value}
 use Rattle.lin_events.specs.declared.calls.Val.TheVariants.{Item as Held, Nil}
-use Rattle.lin_orders.specs.declared.placed.Placed.{Placed}
-use Rattle.lin_orders.specs.ConfigurationLaws.{with_event}
-use Rattle.lin_orders.specs.Orders.{IsBefore}
+use Rattle.lin_order.specs.declared.placed.Placed.{Placed}
+use Rattle.lin_order.specs.ConfigurationLaws.{with_event}
+use Rattle.lin_order.specs.Orders.{IsBefore}
 use Rattle.lin_lists.specs.lemmas.Lists.{get_left, get_cases, get_last}
-use Rattle.lin_debts.specs.Debts.{Owes, IsPut, IsEmptied, LosesEarly, IsEnqueued, FoundNothing, IsDequeued}
-use Rattle.lin_debts.specs.Debts.IsEnqueued.{was_early, put, put_alone}
-use Rattle.lin_debts.specs.Debts.FoundNothing.{stays, emptied}
-use Rattle.lin_debts.specs.Debts.IsDequeued.{paid, taken, taken_early}
-use Rattle.lin_debts.specs.Debts.{IsPaid, IsTaken}
-use Rattle.lin_debts.specs.Laws.{EnqueuedLaw, NothingLaw, DequeuedLaw}
+use Rattle.lin_queues.specs.Debts.{Owes, IsPut, IsEmptied, LosesEarly, IsEnqueued, FoundNothing, IsDequeued}
+use Rattle.lin_queues.specs.Debts.IsEnqueued.{was_early, put, put_alone}
+use Rattle.lin_queues.specs.Debts.FoundNothing.{stays, emptied}
+use Rattle.lin_queues.specs.Debts.IsDequeued.{paid, taken, taken_early}
+use Rattle.lin_queues.specs.Debts.{IsPaid, IsTaken}
+use Rattle.lin_queues.specs.Laws.{EnqueuedLaw, NothingLaw, DequeuedLaw}
 use Rattle.lin_events.specs.Operations.{IsOperation, IsOpen, IsEnd}
 use Rattle.lin_events.specs.WellFormed.{Completes}
 use Rattle.lin_events.specs.Alternation.{IsAlternating}
 use Rattle.lin_events.specs.WellFormedLaws.{EndsAreUnique, WellFormedIsAlternating}
 use Rattle.lin_events.specs.lemmas.OneMore.{one_call}
-use Rattle.lin_orders.specs.Orders.{IsCall}
-use Rattle.lin_orders.specs.lemmas.Opening.{end_back, one_of_process, others_open}
+use Rattle.lin_order.specs.Orders.{IsCall}
+use Rattle.lin_order.specs.lemmas.Opening.{end_back, one_of_process, others_open}
 use Rattle.lin_queues.specs.declared.elements.Element.{Element}
 use Rattle.lin_queues.specs.declared.opens.OpenCall.{OpenCall}
 use Rattle.lin_queues.specs.Gathering.{IsReturning, MayPay, MayTake, MayTakeEarly}

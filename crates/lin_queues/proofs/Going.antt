@@ -16,13 +16,13 @@ use Rattle.lin_events.specs.WellFormed as formed
 use Rattle.lin_events.specs.WellFormedLaws.{EndsAreUnique, WellFormedIsAlternating}
 use Rattle.lin_events.specs.Alternation.{IsAlternating}
 use Rattle.lin_objects.specs.declared.kinds.Kind.TheVariants.{Fifo}
-use Rattle.lin_orders.specs.declared.placed.Placed.{Placed}
-use Rattle.lin_orders.specs.Linearizable.{IsLinearizableAs}
-use Rattle.lin_orders.specs.ConfigurationLaws.{with_event}
-use Rattle.lin_orders.specs.lemmas.Opening.{one_of_process, was_open}
+use Rattle.lin_order.specs.declared.placed.Placed.{Placed}
+use Rattle.lin_order.specs.Linearizable.{IsLinearizableAs}
+use Rattle.lin_order.specs.ConfigurationLaws.{with_event}
+use Rattle.lin_order.specs.lemmas.Opening.{one_of_process, was_open}
 use Rattle.lin_lists.specs.lemmas.Lists.{get_left, get_cases, get_last}
-use Rattle.lin_debts.specs.Debts.{IsWhole}
-use Rattle.lin_debts.specs.Laws.{BeginningLaw, Completes, FailLaw, InfoLaw, InvocationLaw, NoneLaw}
+use Rattle.lin_queues.specs.Debts.{IsWhole}
+use Rattle.lin_queues.specs.Laws.{BeginningLaw, Completes, FailLaw, InfoLaw, InvocationLaw, NoneLaw}
 use Rattle.lin_queues.specs.declared.debts.Debts.{Debts}
 use Rattle.lin_queues.specs.declared.elements.Element.{Element}
 use Rattle.lin_queues.specs.declared.members.QueueMember.{QueueMember}

@@ -6,3 +6,14 @@ pub mod AfterOk
 pub mod Listing
 pub mod Gaining
 pub mod Going
+pub mod DebtLists
+pub mod Ranks
+pub mod Queue
+pub mod Taking
+pub mod Events
+pub mod Stepping
+pub mod Moves
+pub mod Sinking
+pub mod DebtsGoing
+pub mod Turning
+pub mod Returns

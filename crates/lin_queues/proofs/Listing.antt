@@ -15,11 +15,11 @@ use Rattle.lin_events.specs.Operations.{IsOperation, IsEnd, IsOpen}
 use Rattle.lin_events.specs.WellFormed.{IsWellFormed, Completes}
 use Rattle.lin_events.specs.WellFormedLaws.{EndsAreUnique, WellFormedIsAlternating}
 use Rattle.lin_events.specs.Alternation.{IsAlternating}
-use Rattle.lin_orders.specs.declared.placed.Placed.{Placed}
-use Rattle.lin_orders.specs.ConfigurationLaws.{with_event}
-use Rattle.lin_orders.specs.lemmas.Opening.{end_kept, open_kept, opens, open_back, open_beside, open_before, others_open, one_of_process}
+use Rattle.lin_order.specs.declared.placed.Placed.{Placed}
+use Rattle.lin_order.specs.ConfigurationLaws.{with_event}
+use Rattle.lin_order.specs.lemmas.Opening.{end_kept, open_kept, opens, open_back, open_beside, open_before, others_open, one_of_process}
 use Rattle.lin_lists.specs.lemmas.Lists.{get_left, get_cases, get_last}
-use Rattle.lin_debts.specs.Debts.{IsWhole}
+use Rattle.lin_queues.specs.Debts.{IsWhole}
 use Rattle.lin_queues.specs.declared.elements.Element.{Element}
 use Rattle.lin_queues.specs.declared.elements.Elements.{Elements}
 use Rattle.lin_queues.specs.declared.opens.OpenCall.{OpenCall}

@@ -4,10 +4,10 @@ use Rattle.std.proofs.lemmas.Bool.{cases_lt, cases_order}
 use Rattle.std.proofs.lemmas.List.{length-take-le, get_or-take}
 use Rattle.std.proofs.lemmas.Option.{slice_get_within, slice_get-get_or}
 use Rattle.lin_events.specs.declared.events.Event.{Event}
-use Rattle.lin_orders.specs.declared.placed.Placed.{Placed}
+use Rattle.lin_order.specs.declared.placed.Placed.{Placed}
 use Rattle.lin_lists.specs.lemmas.Lists.{get_taken, get_begun}
-use Rattle.lin_debts.specs.Debts.{IsWhole}
-use Rattle.lin_debts.specs.Laws.{PaymentLaw, AreDue}
+use Rattle.lin_queues.specs.Debts.{IsWhole}
+use Rattle.lin_queues.specs.Laws.{PaymentLaw, AreDue}
 use Rattle.lin_queues.specs.declared.elements.Element.{Element}
 use Rattle.lin_queues.specs.declared.members.Debt.{Debt}
 use Rattle.lin_queues.specs.Members.{View, Told, AreUnpaid, HasMore, owed}

@@ -7,11 +7,11 @@ use Rattle.std.proofs.lemmas.Option.{slice_get_within}
 use Rattle.std.proofs.lemmas.List.Elements.{Contains-append_left, Contains-push, Contains-push_cases}
 use Rattle.lin_events.specs.declared.events.Event.{Event}
 use Rattle.lin_events.specs.declared.calls.Call.TheVariants.{Enqueue}
-use Rattle.lin_orders.specs.declared.placed.Placed.{Placed}
-use Rattle.lin_orders.specs.Orders.{IsCall}
+use Rattle.lin_order.specs.declared.placed.Placed.{Placed}
+use Rattle.lin_order.specs.Orders.{IsCall}
 use Rattle.lin_lists.specs.lemmas.Lists.{get_left, get_cases, get_last}
-use Rattle.lin_debts.specs.Debts.{Debtor, Follows, Owes, Dominates, IsPut, IsTaken, IsPaid, IsEmptied, GainsEarly, LosesEarly, nothing_done}
-use Rattle.lin_debts.specs.Laws.{SinkLaw, DominationLaw}
+use Rattle.lin_queues.specs.Debts.{Debtor, Follows, Owes, Dominates, IsPut, IsTaken, IsPaid, IsEmptied, GainsEarly, LosesEarly, nothing_done}
+use Rattle.lin_queues.specs.Laws.{SinkLaw, DominationLaw}
 use Rattle.lin_queues.specs.declared.elements.Element.{Element}
 use Rattle.lin_queues.specs.declared.members.Debt.{Debt}
 use Rattle.lin_queues.specs.Members.{View, Told, IsInside, AreEnqueues, IsAtLeast, owed, first_debt, at_first}

@@ -5,3 +5,7 @@ pub mod Gathering
 pub mod Reaching
 pub mod Gains
 pub mod Engines
+pub mod Debts
+pub mod Laws
+pub mod Ranks
+pub mod inner

@@ -2,9 +2,9 @@
 use Rattle.std.specs.Prelude.{◌≡◌, ◌↔◌, ◌<◌, ◌≤◌, ℕ, List, [], Some, length, map, slice_get, Contains}
 use Rattle.lin_events.specs.declared.events.Event.{Event}
 use Rattle.lin_events.specs.declared.calls.Call.TheVariants.{Enqueue}
-use Rattle.lin_orders.specs.declared.placed.Placed.{Placed}
-use Rattle.lin_orders.specs.Orders.{IsCall}
-use Rattle.lin_debts.specs.Debts.{Debtor, Follows, Owes}
+use Rattle.lin_order.specs.declared.placed.Placed.{Placed}
+use Rattle.lin_order.specs.Orders.{IsCall}
+use Rattle.lin_queues.specs.Debts.{Debtor, Follows, Owes}
 use Rattle.lin_queues.specs.declared.elements.Element.{Element}
 use Rattle.lin_queues.specs.declared.members.Debt.{Debt}
 use Rattle.lin_queues.specs.declared.members.QueueMember.{QueueMember}

@@ -4,7 +4,7 @@ use Rattle.lin_events.specs.declared.items.Item.{Item}
 use Rattle.lin_events.specs.declared.events.Event.{Event}
 use Rattle.lin_events.specs.declared.calls.Call.{Call}
 use Rattle.lin_events.specs.Operations.{IsOpen}
-use Rattle.lin_debts.specs.Debts.{IsOpenDequeue}
+use Rattle.lin_queues.specs.Debts.{IsOpenDequeue}
 use Rattle.lin_queues.specs.declared.opens.OpenCall.{OpenCall}
 
 -- exactly the open operations, by rising place

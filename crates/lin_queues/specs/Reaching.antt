@@ -10,7 +10,7 @@ use Rattle.lin_events.specs.declared.calls.Name.{Name}
 use Rattle.lin_events.specs.declared.calls.Reply.TheVariants.{Done, Value}
 use Rattle.lin_events.specs.declared.calls.Val.TheVariants.{Nil, Item as Held}
 use Rattle.lin_events.specs.Operations.{IsOpen}
-use Rattle.lin_orders.specs.ConfigurationLaws.{with_event}
+use Rattle.lin_order.specs.ConfigurationLaws.{with_event}
 use Rattle.lin_queues.specs.declared.elements.Element.{Element}
 use Rattle.lin_queues.specs.declared.members.Debt.{Debt}
 use Rattle.lin_queues.specs.declared.opens.OpenCall.{OpenCall}

@@ -1,4 +1,21 @@
-//! The engine: goes through a queue's events, one after the other.
+//! An engine that finds the event up to which a fifo queue has no legal order: where its debts can't be paid.
+//!
+//! `Debts` takes the events in, one after the other, and keeps a few members, each a way in which they can have gone: a debtor of
+//! `debt_laws`, with sets of elements in place of orders of them, since elements whose enqueues overlap may stand in any order. A
+//! dequeue that returns an item takes one that is inside, so that all that was put in before its enqueue was invoked went ahead of it,
+//! and is in debt; or one that is in debt, if it was invoked before the debt's time, and so pays it; or one whose enqueue is open. An
+//! enqueue puts its element behind what is inside, or alone behind all of that; a dequeue that found nothing was invoked before the
+//! queue was last empty, or all that is inside is in debt from now on. Of members with the same elements the one with later times is
+//! kept, and one whose debts are more than the open dequeues that can pay goes (`gathered`, `settling`). With none left the engine says
+//! `Fails`, with more than 128 that don't dominate one another it gives up.
+//!
+//! Promised of well-formed events: up to and with the event that `failing_event` tells there is no legal order (it may fail earlier);
+//! it gives up only where there are so many members (`AreTooMany`, specs/Reaching.antt). `Stands` claims no legal order. What is looked
+//! for is of the kind that Henzinger, Sezgin and Vafeiadis 2013 (Aspect-oriented linearizability proofs) name; that it is right of
+//! items that repeat and of operations that crash is proved by the laws of `debt_laws`.
+//!
+//! A step an event, each of which goes through 128 members at most. It isn't cut: a search makes it anew. More: docs/SEARCHES.md, 'A
+//! queue, by its debts'.
 ghost use Rattle.std.specs.Prelude.{◌≡◌, ◌<◌, ◌+◌, ◌++◌, ◌∷◌, [], ℕ, Bool, List, IfNone, IfOk, IfSome, IsTrue, false, Ok, length, Contains};
 ghost use Rattle.lin_events.specs.declared.items.Item.{Item as ItemOf};
 ghost use Rattle.lin_events.specs.declared.events.Event.{Event as EventOf};
@@ -10,18 +27,18 @@ ghost use Rattle.lin_events.specs.declared.calls.Reply.TheVariants.{Done as Done
 ghost use Rattle.lin_events.specs.declared.calls.Val.{Val as ValOf};
 ghost use Rattle.lin_events.specs.declared.calls.Val.TheVariants.{Item as Held, Nil as Nothing};
 ghost use Rattle.lin_objects.specs.declared.kinds.Kind.TheVariants.{Fifo as FifoOf};
-ghost use Rattle.lin_orders.specs.ConfigurationLaws.{with_event};
-ghost use Rattle.lin_orders.specs.Linearizable.{IsLinearizableAs};
+ghost use Rattle.lin_order.specs.ConfigurationLaws.{with_event};
+ghost use Rattle.lin_order.specs.Linearizable.{IsLinearizableAs};
 ghost use Rattle.lin_queues.specs.Engines.{AreDebtsOf, GoesOn, IsCompleting, IsCrowding, IsFailing, reached_count};
 ghost use Rattle.lin_queues.specs.Reaching.{AreTooMany};
 
+use crate::debt_laws::{debts_after_events, debts_at_start, no_debts, other_ok_is_illegal};
 use crate::elements::Elements;
 use crate::gathered::Gathered;
 use crate::members::QueueMember;
 use crate::opens::{OpenCall, index_of};
 use crate::rounds::{after_fail, after_found, after_nothing, after_put};
 use crate::taking::Return;
-use lin_debts::{debts_after_events, debts_at_start, no_debts, other_ok_is_illegal};
 use lin_events::{
     Body, Call, Event, Item, OutOfMemory, Reply, Val, ends_are_unique, well_formed_is_alternating,
 };
@@ -160,7 +177,12 @@ impl Debts {
     }
 
     /// Takes in an ok.
-    fn complete(&mut self, alloc: Global, process: u64, reply: &Reply) -> Result<Progress, OutOfMemory>
+    fn complete(
+        &mut self,
+        alloc: Global,
+        process: u64,
+        reply: &Reply,
+    ) -> Result<Progress, OutOfMemory>
         requires { self.old.reached < usize.MAX }
         ensures next { result ≡ Ok Progress.Next → (event : EventOf) (name : NameOf) → event.body ≡ Returns name reply.now → event.process ≡ process → GoesOn self.old self.new event }
         ensures fails { result ≡ Ok Progress.Fails → (event : EventOf) (name : NameOf) → event.body ≡ Returns name reply.now → event.process ≡ process → IsFailing self.old event }
@@ -227,7 +249,12 @@ impl Debts {
     }
 
     /// An ok of a dequeue. With a reply that tells of no item no queue gives it.
-    fn dequeue(&mut self, alloc: Global, place: usize, reply: &Reply) -> Result<Progress, OutOfMemory>
+    fn dequeue(
+        &mut self,
+        alloc: Global,
+        place: usize,
+        reply: &Reply,
+    ) -> Result<Progress, OutOfMemory>
         requires { self.old.reached < usize.MAX }
         ensures next { result ≡ Ok Progress.Next → (functions : ItemOf → NameOf → Bool) (h : List EventOf) (event : EventOf) → IsCompleting self.old functions h event place Dequeues reply.now → AreDebtsOf self.new (with_event h event) }
         ensures fails { result ≡ Ok Progress.Fails → (functions : ItemOf → NameOf → Bool) (h : List EventOf) (event : EventOf) → IsCompleting self.old functions h event place Dequeues reply.now → IsLinearizableAs FifoOf (with_event h event) → ⊥ }

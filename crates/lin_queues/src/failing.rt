@@ -5,7 +5,7 @@ ghost use Rattle.lin_events.specs.declared.calls.Name.{Name as NameOf};
 ghost use Rattle.lin_events.specs.Meters.{ticked};
 ghost use Rattle.lin_events.specs.WellFormed.{IsWellFormed};
 ghost use Rattle.lin_objects.specs.declared.kinds.Kind.TheVariants.{Fifo as FifoOf};
-ghost use Rattle.lin_orders.specs.Linearizable.{IsLinearizableAs};
+ghost use Rattle.lin_order.specs.Linearizable.{IsLinearizableAs};
 ghost use Rattle.lin_queues.specs.Engines.{AreDebtsOf};
 ghost use Rattle.lin_queues.specs.Reaching.{AreTooMany};
 ghost use Rattle.lin_queues.specs.declared.debts.Debts.{Debts as DebtsOf};
@@ -42,7 +42,11 @@ fn count(meter: &mut Meter)
 /// `Fails` is right of well-formed events. `Stands` claims no legal order, only that the engine went through all events with a member left. `GaveUp` is answered
 /// of well-formed events only where some of the first ones come to more than 128 members, none of which is as good as another one. A step is counted
 /// for each event that was gone through. `OutOfMemory` is answered only where memory was refused.
-pub fn failing_event(alloc: Global, events: &[Event], meter: &mut Meter) -> Result<QueueFinding, OutOfMemory>
+pub fn failing_event(
+    alloc: Global,
+    events: &[Event],
+    meter: &mut Meter,
+) -> Result<QueueFinding, OutOfMemory>
     ensures inside { (at : ℕ) → result ≡ Ok (QueueFinding.Fails at) → at < length events.now }
     ensures failing { (at : ℕ) → result ≡ Ok (QueueFinding.Fails at) → (functions : ItemOf → NameOf → Bool) → IsWellFormed functions events.now → IsLinearizableAs FifoOf (take (at + 1) events.now) → ⊥ }
     ensures stands { result ≡ Ok QueueFinding.Stands → (functions : ItemOf → NameOf → Bool) → IsWellFormed functions events.now → (debts : DebtsOf) × AreDebtsOf debts events.now }

@@ -1,8 +1,8 @@
 //! The members that are gathered for the events with one more.
 ghost use Rattle.std.specs.Prelude.{◌≡◌, ◌⊎◌, ◌+◌, ℕ, List, [], false, IfOk, IsTrue, OnOk, length, Contains};
 ghost use Rattle.lin_events.specs.declared.events.Event.{Event as EventOf};
-ghost use Rattle.lin_orders.specs.declared.placed.Placed.{Placed as PlacedOf};
-ghost use Rattle.lin_debts.specs.Debts.{IsWhole};
+ghost use Rattle.lin_order.specs.declared.placed.Placed.{Placed as PlacedOf};
+ghost use Rattle.lin_queues.specs.Debts.{IsWhole};
 ghost use Rattle.lin_queues.specs.declared.elements.Element.{Element as ElementOf};
 ghost use Rattle.lin_queues.specs.declared.members.QueueMember.{QueueMember as MemberOf};
 ghost use Rattle.lin_queues.specs.Gains.{AreApart, Gains};
@@ -10,9 +10,9 @@ ghost use Rattle.lin_queues.specs.Gathering.{IsCovered, Keeps};
 ghost use Rattle.lin_queues.specs.Members.{AreUnpaid, HasMore, IsAtLeast, Told, view_of};
 ghost use Rattle.lin_queues.specs.Opens.{AreDequeues, AreOpen};
 
+use crate::debt_laws::{debts_are_payable, debts_move};
 use crate::members::{QueueMember, are_unpaid};
 use crate::opens::{OpenCall, dequeues_of};
-use lin_debts::{debts_are_payable, debts_move};
 use lin_events::OutOfMemory;
 use std::alloc::Global;
 

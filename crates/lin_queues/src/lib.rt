@@ -1,32 +1,32 @@
-//! An engine that finds the event up to which a fifo queue has no legal order: where its debts can't be paid.
+//! The fifo queue: an engine that finds the event up to which its debts can't be paid, and a search for an item that was taken out more often,
+//! between two ranks, than it can have been put in.
 //!
-//! `Debts` takes the events in, one after the other, and keeps a few members, each a way in which they can have gone: a debtor of
-//! `lin_debts`, with sets of elements in place of orders of them, since elements whose enqueues overlap may stand in any order. A
-//! dequeue that returns an item takes one that is inside, so that all that was put in before its enqueue was invoked went ahead of it,
-//! and is in debt; or one that is in debt, if it was invoked before the debt's time, and so pays it; or one whose enqueue is open. An
-//! enqueue puts its element behind what is inside, or alone behind all of that; a dequeue that found nothing was invoked before the
-//! queue was last empty, or all that is inside is in debt from now on. Of members with the same elements the one with later times is
-//! kept, and one whose debts are more than the open dequeues that can pay goes (`gathered`, `settling`). With none left the engine says
-//! `Fails`, with more than 128 that don't dominate one another it gives up.
-//!
-//! Promised of well-formed events: up to and with the event that `failing_event` tells there is no legal order (it may fail earlier);
-//! it gives up only where there are so many members (`AreTooMany`, specs/Reaching.antt). `Stands` claims no legal order. What is looked
-//! for is of the kind that Henzinger, Sezgin and Vafeiadis 2013 (Aspect-oriented linearizability proofs) name; that it is right of
-//! items that repeat and of operations that crash is proved by the laws of `lin_debts`.
-//!
-//! A step an event, each of which goes through 128 members at most. It isn't cut: a search makes it anew. More: docs/SEARCHES.md, 'A
-//! queue, by its debts'.
+//! Both tell failures alone: up to and with the event that they find there is no legal order. Neither finds each failure. The algorithms,
+//! and what they promise, stand at the head of `debts` and of `finding`, the laws on which they rest at that of `debt_laws` and `laws`.
 #![tactic(auto)]
 
+mod checking;
+mod counts;
+mod debt_laws;
 mod debts;
 mod elements;
 mod failing;
+mod finding;
 mod gathered;
+mod laws;
+mod lines;
 mod members;
 mod opens;
+mod operations;
 mod rounds;
 mod settling;
 mod taking;
 
+pub use debt_laws::{
+    debts_after_events, debts_after_ok, debts_are_payable, debts_at_start, debts_move, no_debts,
+    other_ok_is_illegal,
+};
 pub use debts::{Debts, Progress};
 pub use failing::{QueueFinding, failing_event};
+pub use finding::rank_failure;
+pub use laws::overtaken_ranks_are_illegal;

@@ -2,12 +2,12 @@
 ghost use Rattle.std.specs.Prelude.{◌≡◌, ◌<◌, ◌≤◌, ◌+◌, ◌++◌, ◌∷◌, [], ◌==◌, ◌↔◌, ℕ, List, Bool, true, false, IfOk, OnOk, IsTrue, Ok, not, filter, length, map, Contains};
 ghost use Rattle.std.specs.List.{remove as removed};
 ghost use Rattle.lin_events.specs.declared.events.Event.{Event as EventOf};
-ghost use Rattle.lin_orders.specs.declared.placed.Placed.{Placed as PlacedOf};
+ghost use Rattle.lin_order.specs.declared.placed.Placed.{Placed as PlacedOf};
 ghost use Rattle.lin_queues.specs.Members.{AreEnqueues, AreOwed, AreUnpaid, HasMore, IsAtLeast, Told, at_first, first_debt, view_of};
 ghost use Rattle.lin_queues.specs.Reaching.{Sinks};
 
+use crate::debt_laws::debts_move;
 use crate::elements::Element;
-use lin_debts::debts_move;
 use lin_events::{Item, OutOfMemory};
 use std::alloc::Global;
 

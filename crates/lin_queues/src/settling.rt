@@ -7,9 +7,9 @@ ghost use Rattle.lin_events.specs.declared.calls.Reply.{Reply as ReplyOf};
 ghost use Rattle.lin_events.specs.declared.calls.Call.TheVariants.{Dequeue as Dequeues, Enqueue as Enqueues};
 ghost use Rattle.lin_events.specs.declared.calls.Reply.TheVariants.{Value as Values};
 ghost use Rattle.lin_events.specs.declared.calls.Val.TheVariants.{Item as Held, Nil as Nothing};
-ghost use Rattle.lin_orders.specs.declared.placed.Placed.{Placed as PlacedOf};
-ghost use Rattle.lin_orders.specs.ConfigurationLaws.{with_event};
-ghost use Rattle.lin_debts.specs.Debts.{IsWhole};
+ghost use Rattle.lin_order.specs.declared.placed.Placed.{Placed as PlacedOf};
+ghost use Rattle.lin_order.specs.ConfigurationLaws.{with_event};
+ghost use Rattle.lin_queues.specs.Debts.{IsWhole};
 ghost use Rattle.lin_queues.specs.declared.elements.Element.{Element as ElementOf};
 ghost use Rattle.lin_queues.specs.declared.members.QueueMember.{QueueMember as MemberOf};
 ghost use Rattle.lin_queues.specs.Gains.{Gains};
@@ -18,10 +18,10 @@ ghost use Rattle.lin_queues.specs.Members.{AreEnqueues, AreOwed, Told, view_of};
 ghost use Rattle.lin_queues.specs.Reaching.{Fails, FindsNothing, PutsIn, Sinks};
 ghost use Rattle.lin_queues.specs.Opens.{AreDequeues, AreOpen};
 
+use crate::debt_laws::{debts_after_ok, debts_are_payable};
 use crate::elements::Element;
 use crate::gathered::Gathered;
 use crate::members::{QueueMember, is_in};
-use lin_debts::{debts_after_ok, debts_are_payable};
 use lin_events::OutOfMemory;
 use std::alloc::Global;
 

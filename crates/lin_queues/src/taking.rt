@@ -7,9 +7,9 @@ ghost use Rattle.lin_events.specs.declared.calls.Name.{Name as NameOf};
 ghost use Rattle.lin_events.specs.declared.calls.Call.TheVariants.{Dequeue as Dequeues, Enqueue as Enqueues};
 ghost use Rattle.lin_events.specs.declared.calls.Reply.TheVariants.{Value as Values};
 ghost use Rattle.lin_events.specs.declared.calls.Val.TheVariants.{Item as Held};
-ghost use Rattle.lin_orders.specs.declared.placed.Placed.{Placed as PlacedOf};
-ghost use Rattle.lin_orders.specs.ConfigurationLaws.{with_event};
-ghost use Rattle.lin_debts.specs.Debts.{IsWhole};
+ghost use Rattle.lin_order.specs.declared.placed.Placed.{Placed as PlacedOf};
+ghost use Rattle.lin_order.specs.ConfigurationLaws.{with_event};
+ghost use Rattle.lin_queues.specs.Debts.{IsWhole};
 ghost use Rattle.lin_queues.specs.declared.elements.Element.{Element as ElementOf};
 ghost use Rattle.lin_queues.specs.declared.opens.OpenCall.{OpenCall as OpenOf};
 ghost use Rattle.lin_queues.specs.Chains.{IsLinked};
@@ -19,11 +19,11 @@ ghost use Rattle.lin_queues.specs.Members.{AreEnqueues, AreOwed, Told, view_of};
 ghost use Rattle.lin_queues.specs.Reaching.{Finds, Pays, Sinks, Takes, TakesEarly};
 ghost use Rattle.lin_queues.specs.Opens.{AreDequeues, AreOpen};
 
+use crate::debt_laws::debts_after_ok;
 use crate::elements::Element;
 use crate::gathered::Gathered;
 use crate::members::{QueueMember, is_in};
 use crate::opens::{OpenCall, puts};
-use lin_debts::debts_after_ok;
 use lin_events::{Item, OutOfMemory, ends_are_unique, well_formed_is_alternating};
 use std::alloc::Global;
 
@@ -84,7 +84,12 @@ impl Gathered {
     }
 
     /// A debt of the item is paid by the dequeue, each in turn.
-    fn pay(&mut self, alloc: Global, member: &QueueMember, returned: Return) -> Result<(), OutOfMemory>
+    fn pay(
+        &mut self,
+        alloc: Global,
+        member: &QueueMember,
+        returned: Return,
+    ) -> Result<(), OutOfMemory>
         ensures told { OnOk result ((h whole : List EventOf) (order : List PlacedOf) (all : List ElementOf) (at : ℕ) → IsWhole h whole order → AreDequeues h self.old.dequeues.items → MayPay whole order (length h) all (view_of member.now) returned.dequeue returned.item at → IsCovered whole order (length h) all self.new.members.items self.new.is_full) }
         ensures kept { OnOk result (Keeps self.old self.new) }
         ensures gains { OnOk result (Gains self.old self.new (Pays returned.dequeue returned.item (view_of member.now))) }

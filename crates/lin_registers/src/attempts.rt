@@ -5,13 +5,13 @@ ghost use Rattle.std.specs.Prelude.{◌≡◌, ◌≤◌};
 ghost use Rattle.lin_events.specs.Meters.{ticked};
 
 use crate::acts::{Act, Acts, Waiting};
-use crate::drafts::{Draft, Gap, DraftSpot, DraftStep, count_as_wide, widest};
+use crate::drafts::{Draft, DraftSpot, DraftStep, Gap, count_as_wide, widest};
 use crate::lines::LinkedLine;
 use crate::paths::paths;
 use crate::pool::{Offer, OpenReturn, ReturnPool, has_operation};
 use crate::zones::register_failure;
 use lin_events::{Event, Meter, OutOfMemory, Val};
-use lin_orders::Placed;
+use lin_order::Placed;
 use std::alloc::Global;
 
 /// So many beginnings are kept at most by the first search, and by the second where that finds nothing: they are enough for most histories.
@@ -163,7 +163,11 @@ impl<'a> Attempt<'a> {
     }
 
     /// Places the open operation where it finds what the register holds.
-    fn read_at_once(&mut self, drafts: &mut Vec<Draft>, open: &OpenReturn) -> Result<(), OutOfMemory> {
+    fn read_at_once(
+        &mut self,
+        drafts: &mut Vec<Draft>,
+        open: &OpenReturn,
+    ) -> Result<(), OutOfMemory> {
         for draft in drafts.iter_mut() {
             if open.act == Act::Read(draft.held) && !draft.has(open) {
                 self.step(draft, open.operation, DraftSpot::Behind(draft.last))?;
@@ -174,7 +178,12 @@ impl<'a> Attempt<'a> {
     }
 
     /// Puts the operation in the order, unless there are more steps than can be named.
-    fn step(&mut self, draft: &mut Draft, operation: usize, spot: DraftSpot) -> Result<(), OutOfMemory> {
+    fn step(
+        &mut self,
+        draft: &mut Draft,
+        operation: usize,
+        spot: DraftSpot,
+    ) -> Result<(), OutOfMemory> {
         let (Ok(name), Ok(step)) = (
             u32::try_from(operation),
             u32::try_from(self.steps.len().saturating_add(1)),

@@ -5,7 +5,7 @@
 //! while they were open. It knows what comes, so a beginning goes where an open operation needs a value that nothing leaves any more.
 //! At most 2 beginnings are kept, then 4, and where no operations are found that conflict 16, 128 and 1,024. That is the just-in-time
 //! linearization of Lowe 2017 (Testing for linearizability) as a beam search: what it drops may have been the order.
-//! `register_order_from` does the same from a state with open operations, for `lin_witness`.
+//! `register_order_from` does the same from a state with open operations, for `lin_engines`.
 //!
 //! `register_failure` (`zones`) looks, one event after another, for the first with which operations conflict. All that holds a value
 //! which one update leaves, that update and the reads of it, stands together in a legal order: its zone runs from the first return
@@ -14,7 +14,7 @@
 //! overwritten before (`Overwritten`).
 //!
 //! It is a guide: nothing is promised of what either finds but that it is safe and ends. An order has to pass `check_order`, a conflict
-//! `is_refuted` (`lin_failures`); nothing found says nothing. Each attempt gives up after 32 steps or 1,024 comparisons for each event,
+//! `is_refuted` (`lin_certificates`); nothing found says nothing. Each attempt gives up after 32 steps or 1,024 comparisons for each event,
 //! and the zones after 16 steps, with a fixed number more. More: docs/SEARCHES.md, 'An order of a register' and 'Operations of a
 //! register that conflict'.
 #![tactic(auto)]

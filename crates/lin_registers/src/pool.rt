@@ -109,7 +109,12 @@ impl ReturnPool {
     }
 
     /// An update was invoked that never returns. Classes that aren't needed any longer go.
-    pub fn crash(&mut self, alloc: Global, update: OpenReturn, now: usize) -> Result<(), OutOfMemory> {
+    pub fn crash(
+        &mut self,
+        alloc: Global,
+        update: OpenReturn,
+        now: usize,
+    ) -> Result<(), OutOfMemory> {
         self.classes.retain(|class| class.last > now);
         for class in self.classes.iter_mut() {
             if class.act == update.act {

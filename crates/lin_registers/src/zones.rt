@@ -1,8 +1,8 @@
 //! A search for operations of a register that conflict, one event after another. Whatever it finds is checked; that it finds something isn't
 //! promised.
 use crate::acts::{Act, Acts, act_of};
+use lin_certificates::{Block, Conflict};
 use lin_events::{Body, Event, Item, OutOfMemory, Val};
-use lin_failures::{Block, Conflict};
 use std::alloc::Global;
 use std::collections::HashMap;
 

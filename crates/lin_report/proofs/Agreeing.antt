@@ -4,8 +4,8 @@ use Rattle.std.proofs.lemmas.Bool.{cases_order}
 use Rattle.std.proofs.lemmas.List.{take-take}
 use Rattle.lin_events.specs.declared.events.Event.{Event}
 use Rattle.lin_objects.specs.Kinds.{kind_of}
-use Rattle.lin_orders.specs.Laws.{PrefixesAreLinearizable, PrefixesAreLinearizableFor}
-use Rattle.lin_orders.specs.Linearizable.{IsLinearizable, IsLinearizableFor}
+use Rattle.lin_order.specs.Laws.{PrefixesAreLinearizable, PrefixesAreLinearizableFor}
+use Rattle.lin_order.specs.Linearizable.{IsLinearizable, IsLinearizableFor}
 use Rattle.lin_answers.specs.Answers.{IsShortestWithout}
 use Rattle.lin_answers.specs.declared.answers.Scope.TheVariants.{Object, Whole}
 use Rattle.lin_report.specs.Uniqueness.{NoTellsOnePrefix, YesExcludesNo}

@@ -8,8 +8,8 @@ use Rattle.lin_events.specs.Items.{item_eq}
 use Rattle.lin_events.specs.Sameness.{Decides-item_eq}
 use Rattle.lin_events.specs.Operations.{IsEvent}
 use Rattle.lin_lists.specs.lemmas.Lists.{get_taken}
-use Rattle.lin_orders.specs.Linearizable.{IsLinearizable, IsLinearizableFor}
-use Rattle.lin_orders.specs.Merging.{AbsentKeysAreLegal, IsLocal}
+use Rattle.lin_order.specs.Linearizable.{IsLinearizable, IsLinearizableFor}
+use Rattle.lin_order.specs.Merging.{AbsentKeysAreLegal, IsLocal}
 use Rattle.lin_answers.specs.Answers.{IsObjectVerdict, IsOverAt, IsVerdict, IsWholeVerdict, kinds_in}
 use Rattle.lin_answers.specs.Edits.{Present}
 use Rattle.lin_answers.specs.Keys.{AreKeys}

@@ -6,9 +6,9 @@ use Rattle.lin_events.specs.Operations.{IsEvent}
 use Rattle.lin_events.specs.WellFormed.{IsWellFormed}
 use Rattle.lin_events.specs.WellFormedLaws.{BeginningsAreWellFormed}
 use Rattle.lin_objects.specs.Kinds.{functions_of}
-use Rattle.lin_orders.specs.Linearizable.{IsLinearizableFor}
-use Rattle.lin_orders.specs.Parts.{part}
-use Rattle.lin_orders.specs.PartLaws.{LinearizableByPart, PartsAreWellFormed, PartsGrow}
+use Rattle.lin_order.specs.Linearizable.{IsLinearizableFor}
+use Rattle.lin_order.specs.Parts.{part}
+use Rattle.lin_order.specs.PartLaws.{LinearizableByPart, PartsAreWellFormed, PartsGrow}
 use Rattle.lin_order.specs.RefutationLaws.{RefutationsExcludeOrders}
 use Rattle.lin_order.specs.Refutations.{Config}
 use Rattle.lin_lists.specs.lemmas.Lists.{take_next}

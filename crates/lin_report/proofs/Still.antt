@@ -1,7 +1,7 @@
 -- Questions about objects of which all is known.
 use Rattle.std.proofs.Common.{◌≡◌, ◌≤◌, ◌+◌, ◌∙◌, ℕ, zero, suc, None, Some, arith, inl, inr, length, refl, subst, sym}
 use Rattle.lin_events.specs.declared.items.Item.{Item}
-use Rattle.lin_orders.specs.Parts.{part}
+use Rattle.lin_order.specs.Parts.{part}
 use Rattle.lin_engines.specs.declared.ends.End.{End}
 use Rattle.lin_chain.specs.Work.{Mark}
 use Rattle.lin_answers.specs.Edits.{Present}

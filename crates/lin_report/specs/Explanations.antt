@@ -24,12 +24,12 @@ use Rattle.lin_texts.specs.declared.settings.Settings.{Settings}
 use Rattle.lin_formats.specs.declared.verdicts.Refusal.{Refusal}
 use Rattle.lin_texts.specs.declared.status.Status.{Status}
 use Rattle.lin_texts.specs.declared.status.Status.TheVariants as ends
-use Rattle.lin_places.specs.Places.{Marked, Marks}
+use Rattle.lin_formats.specs.Places.{Marked, Marks}
 use Rattle.lin_texts.specs.declared.place.Place.{Place}
 use Rattle.lin_explain.specs.Certain.{certain_line}
 use Rattle.lin_explain.specs.Explained.{Explains, scope_of}
-use Rattle.lin_reading.specs.Hints.{IsHint}
-use Rattle.lin_reading.specs.Refused.{place_in, refused_text}
+use Rattle.lin_formats.specs.Hints.{IsHint}
+use Rattle.lin_formats.specs.Refused.{place_in, refused_text}
 use Rattle.lin_explain.specs.declared.parts.Parts.{Parts}
 use Rattle.lin_explain.specs.declared.telling.Asked.{Asked}
 use Rattle.lin_json.specs.Explanations.{explanation_json, refusal_json}

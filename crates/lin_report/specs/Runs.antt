@@ -9,7 +9,7 @@ use Rattle.lin_history.specs.declared.follow.FollowFault.{FollowFault}
 use Rattle.lin_history.specs.declared.follow.FollowFault.TheVariants as fault
 use Rattle.lin_history.specs.Stream.{IsStreamBy}
 use Rattle.lin_names.specs.Names.{AreEachOnce, Begins}
-use Rattle.lin_orders.specs.Parts.{part}
+use Rattle.lin_order.specs.Parts.{part}
 use Rattle.lin_order.specs.Refutations.{Config, IsRefutation}
 use Rattle.lin_answers.specs.Answers.{IsAnswer, IsVerdict, kinds_in, verdict_of, IsOverSomewhere}
 use Rattle.lin_answers.specs.Edits.{Present, IsRefused, edited}

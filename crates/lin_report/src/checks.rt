@@ -53,7 +53,11 @@ fn text_refusal(alloc: Global, refusal: Refusal) -> Result<Vec<u8>, AllocError>
 }
 
 /// What is printed of a file that is refused.
-pub fn refused(alloc: Global, format: ReportFormat, refusal: Refusal) -> Result<Answered, AllocError>
+pub fn refused(
+    alloc: Global,
+    format: ReportFormat,
+    refusal: Refusal,
+) -> Result<Answered, AllocError>
     ensures { IfOk result (λ answered. (answered.text.items ≡ refusal_line format refusal) × (answered.status ≡ Status.Refused)) }
 {
     let text = match format {

@@ -27,11 +27,10 @@ use lin_answers::{Answer, Scope, Verdict};
 use lin_events::{Event, Item, OutOfMemory};
 use lin_explain::{Asked, Explanation, explanation_from, explanation_of};
 use lin_formats::{
-    Counted, History, Refusal, RunFault, Settings, Status, put_number, refusal_words, write_whole,
+    Counted, EventPlaces, History, Places, Refusal, RunFault, Settings, Status, put_number,
+    read_placed, refusal_lines, refusal_words, write_whole,
 };
 use lin_names::{Names, Said};
-use lin_places::Places;
-use lin_reading::{EventPlaces, read_placed, refusal_lines};
 use lin_session::Session;
 use lin_texts::Place;
 use std::alloc::{AllocError, Global};
@@ -210,7 +209,15 @@ pub fn explain_reply(
         with_order: false,
         keyed,
     };
-    let answered = explanation(alloc, session, names, ReportFormat::Text, scope, asked, None)?;
+    let answered = explanation(
+        alloc,
+        session,
+        names,
+        ReportFormat::Text,
+        scope,
+        asked,
+        None,
+    )?;
     let mut text = Vec::from_slice(alloc, b"explained ")?;
     put_number(&mut text, line_count(answered.text.as_slice()) as u64)?;
     text.push(b'\n')?;
@@ -265,7 +272,11 @@ pub(crate) fn explained(
 }
 
 /// The lines that are told of a file that is refused.
-fn refused_lines(alloc: Global, refusal: Refusal, placed: &EventPlaces) -> Result<Vec<u8>, OutOfMemory>
+fn refused_lines(
+    alloc: Global,
+    refusal: Refusal,
+    placed: &EventPlaces,
+) -> Result<Vec<u8>, OutOfMemory>
     ensures { IfOk result (λ text. text.items ≡ lines_for placed.now.places refusal placed.now.hints.items) }
 {
     let lines = refusal_lines(alloc, refusal, placed)?;

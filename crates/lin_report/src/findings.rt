@@ -11,7 +11,7 @@ use crate::answers::is_ill_formed;
 use lin_answers::{Scope, Verdict};
 use lin_events::{Item, OutOfMemory};
 use lin_names::Names;
-use lin_orders::{absent_keys_are_legal, linearizability_is_local};
+use lin_order::{absent_keys_are_legal, linearizability_is_local};
 use lin_session::Session;
 use std::alloc::Global;
 

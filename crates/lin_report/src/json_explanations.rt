@@ -1,6 +1,6 @@
 //! Explanations for machines: one line of JSON.
 ghost use Rattle.std.specs.Prelude.{◌≡◌, ◌++◌, IfOk, codes, option_map};
-ghost use Rattle.lin_reading.specs.Refused.{place_in};
+ghost use Rattle.lin_formats.specs.Refused.{place_in};
 ghost use Rattle.lin_formats.specs.VerdictTexts.{refusal_text};
 ghost use Rattle.lin_texts.specs.declared.status.Status.TheVariants as ends;
 ghost use Rattle.lin_json.specs.Explanations.{refusal_json};
@@ -12,11 +12,9 @@ use crate::beside::{Beside, whole_words};
 use crate::formats::ReportFormat;
 use lin_answers::Verdict;
 use lin_explain::Explanation;
-use lin_formats::{Refusal, Status, refusal_words};
+use lin_formats::{Places, Refusal, Status, place_of, refusal_words};
 use lin_json::{Head, put_explanation, put_refusal};
 use lin_names::Names;
-use lin_places::Places;
-use lin_reading::place_of;
 use std::alloc::{AllocError, Global};
 
 /// A text without the byte that ends its last line.

@@ -2,8 +2,8 @@
 ghost use Rattle.std.specs.Prelude.{◌≡◌, ◌≤◌, ◌-◌, ◌++◌, ℕ, Bool, List, IfOk, MatchOption, codes, decimal, length, take};
 ghost use Rattle.lin_events.specs.WellFormed.{IsWellFormed};
 ghost use Rattle.lin_objects.specs.Kinds.{functions_of};
-ghost use Rattle.lin_orders.specs.Linearizable.{IsLinearizableFor};
-ghost use Rattle.lin_orders.specs.Parts.{part};
+ghost use Rattle.lin_order.specs.Linearizable.{IsLinearizableFor};
+ghost use Rattle.lin_order.specs.Parts.{part};
 ghost use Rattle.lin_order.specs.Refutations.{sets_of};
 ghost use Rattle.lin_answers.specs.Answers.{kinds_in};
 ghost use Rattle.lin_session.specs.Refuting.{Refutes};
@@ -15,8 +15,10 @@ use crate::replies::{WrittenReply, answered};
 use lin_answers::answers_are_verdicts;
 use lin_events::{Event, Item, OutOfMemory, beginnings_are_well_formed};
 use lin_formats::{Status, put_number};
-use lin_order::{Refutation, check_refutation, refutations_exclude_orders};
-use lin_orders::{parts_grow, parts_keep_operations, parts_keep_orders};
+use lin_order::{
+    Refutation, check_refutation, parts_grow, parts_keep_operations, parts_keep_orders,
+    refutations_exclude_orders,
+};
 use lin_session::{RefuteFault, Refuted, Session};
 use std::alloc::{AllocError, Global};
 

@@ -4,7 +4,7 @@ use Rattle.std.specs.Prelude.{min}
 use Rattle.std.specs.List.{cons_option}
 use Rattle.lin_events.specs.declared.events.Event.{Event}
 use Rattle.lin_events.specs.Meters.{ticked}
-use Rattle.lin_orders.specs.Parts.{events_at}
+use Rattle.lin_order.specs.Parts.{events_at}
 
 -- ticks on ticks
 ticked_on : (count first more : ℕ) → ticked (ticked count first) more ≡ ticked count (first + more)

@@ -13,10 +13,10 @@ use Rattle.lin_events.specs.declared.events.Event.{Event}
 use Rattle.lin_objects.specs.declared.kinds.Kind.{Kind}
 use Rattle.lin_objects.specs.Kinds.{kind_of, same_for_all}
 use Rattle.lin_objects.specs.Steps.{Step, start}
-use Rattle.lin_orders.specs.declared.placed.Placed.{Placed}
-use Rattle.lin_orders.specs.Linearizable.{IsLegalOrder, IsRun, IsLegalOrderAs}
-use Rattle.lin_orders.specs.Orders.{IsCall, is_of_key, part_of}
-use Rattle.lin_orders.specs.Parts.{events_at}
+use Rattle.lin_order.specs.declared.placed.Placed.{Placed}
+use Rattle.lin_order.specs.Linearizable.{IsLegalOrder, IsRun, IsLegalOrderAs}
+use Rattle.lin_order.specs.Orders.{IsCall, is_of_key, part_of}
+use Rattle.lin_order.specs.Parts.{events_at}
 
 -- a test that holds of all elements keeps the list
 kept_all : {X : Type 0} (p : X → Bool) (xs : List X) → All (λ x. p x ≡ true) xs → filter p xs ≡ xs

@@ -2,7 +2,7 @@
 //! a dequeue that finds nothing needs it gone. Whatever it finds is checked; that it finds one isn't promised.
 use crate::copies::{Bag, Copies, Moment};
 use lin_events::{Event, OutOfMemory, Reply, Val};
-use lin_orders::Placed;
+use lin_order::Placed;
 use std::alloc::Global;
 
 /// An order that is being made.

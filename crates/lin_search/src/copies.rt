@@ -1,5 +1,5 @@
 //! What the operations of a bag did, as far as its whole history tells. Copies of an item are alike.
-use lin_depth::{NEVER, PossibleOperation, CallSpan, gathered};
+use lin_depth_first::{CallSpan, NEVER, PossibleOperation, gathered};
 use lin_events::{Body, Call, Event, Item, OutOfMemory, Reply, Val};
 use std::alloc::Global;
 use std::collections::HashMap;
@@ -255,7 +255,12 @@ impl Bag {
     }
 
     /// The dequeue took the item out.
-    fn add_exit(&mut self, alloc: Global, item: Item, dequeue: CallSpan) -> Result<(), OutOfMemory> {
+    fn add_exit(
+        &mut self,
+        alloc: Global,
+        item: Item,
+        dequeue: CallSpan,
+    ) -> Result<(), OutOfMemory> {
         let place = self.place_of(alloc, item)?;
         if let Some(copies) = self.copies.get_mut(place) {
             let rank = copies.add_exit(dequeue)?;

@@ -1,5 +1,5 @@
 //! What the operations of a queue did, as far as its whole history tells, where each item is put in once.
-use lin_depth::{NEVER, PossibleOperation, CallSpan, gathered};
+use lin_depth_first::{CallSpan, NEVER, PossibleOperation, gathered};
 use lin_events::{Body, Call, Event, Item, OutOfMemory, Reply, Val};
 use std::alloc::Global;
 use std::collections::HashMap;

@@ -3,7 +3,7 @@
 use crate::elements::{Element, Queue};
 use crate::ranks::{Vacancy, ranked, vacancies};
 use lin_events::{Event, OutOfMemory, Reply, Val};
-use lin_orders::Placed;
+use lin_order::Placed;
 use std::alloc::Global;
 
 /// What completes at a place, of the element with the rank.

@@ -1,6 +1,6 @@
 //! A search for the order in which the elements of a queue are put in and taken out. It promises nothing.
 use crate::elements::{Element, Queue};
-use lin_depth::{NEVER, CallSpan};
+use lin_depth_first::{CallSpan, NEVER};
 use lin_events::OutOfMemory;
 use std::alloc::Global;
 

@@ -9,18 +9,17 @@ ghost use Rattle.std.specs.Prelude.{◌≡◌, ◌≢◌, ◌<◌, ◌≤◌, �
 ghost use Rattle.lin_events.specs.Meters.{ticked};
 ghost use Rattle.lin_objects.specs.declared.kinds.Kind.TheVariants.{Fifo, Mutex, Set};
 ghost use Rattle.lin_objects.specs.Kinds.{kind_of, same_for_all};
-ghost use Rattle.lin_orders.specs.Linearizable.{IsDeadAt, IsLegalOrder, IsLegalOrderAs, IsLinearizableAs};
-ghost use Rattle.lin_orders.specs.Parts.{events_at};
+ghost use Rattle.lin_order.specs.Linearizable.{IsDeadAt, IsLegalOrder, IsLegalOrderAs, IsLinearizableAs};
+ghost use Rattle.lin_order.specs.Parts.{events_at};
 
 use crate::bags::bag_order;
 use crate::queues::queue_order;
-use lin_depth::depth_first_order;
+use lin_certificates::{BagConflict, Conflict, bag_failure, is_bag_refuted, is_refuted};
+use lin_depth_first::depth_first_order;
 use lin_events::{Event, Item, Meter, OutOfMemory, beginnings_are_well_formed};
-use lin_failures::{BagConflict, Conflict, bag_failure, is_bag_refuted, is_refuted};
 use lin_objects::{Kind, Kinds};
-use lin_orders::{Placed, check_order};
-use lin_queues::{QueueFinding, failing_event};
-use lin_ranks::{overtaken_ranks_are_illegal, rank_failure};
+use lin_order::{Placed, check_order};
+use lin_queues::{QueueFinding, failing_event, overtaken_ranks_are_illegal, rank_failure};
 use lin_registers::{register_failure, register_order};
 use std::alloc::Global;
 

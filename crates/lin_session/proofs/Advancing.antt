@@ -10,8 +10,8 @@ use Rattle.lin_events.specs.declared.events.Event.{Event}
 use Rattle.lin_events.specs.WellFormed.{IsWellFormed}
 use Rattle.lin_objects.specs.declared.kinds.Kind.{Kind}
 use Rattle.lin_objects.specs.Kinds.{functions_of}
-use Rattle.lin_orders.specs.Parts.{events_at, part}
-use Rattle.lin_orders.specs.PartLaws.{PartsAreWellFormed, PositionsSpellParts}
+use Rattle.lin_order.specs.Parts.{events_at, part}
+use Rattle.lin_order.specs.PartLaws.{PartsAreWellFormed, PositionsSpellParts}
 use Rattle.lin_engines.specs.declared.ends.End.{End}
 use Rattle.lin_engines.specs.declared.ends.End.TheVariants.{Alive}
 use Rattle.lin_engines.specs.Exacts.{HasExact}

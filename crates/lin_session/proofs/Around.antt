@@ -9,7 +9,7 @@ use Rattle.lin_events.specs.Items.{item_eq}
 use Rattle.lin_events.specs.declared.events.Event.{Event}
 use Rattle.lin_events.specs.Operations.{IsEvent}
 use Rattle.lin_objects.specs.declared.kinds.Kind.{Kind}
-use Rattle.lin_orders.specs.Parts.{ArePositionsOf, part}
+use Rattle.lin_order.specs.Parts.{ArePositionsOf, part}
 use Rattle.lin_chain.specs.declared.chain.Chain.{Chain}
 use Rattle.lin_chain.specs.Chains.{IsFor, IsMarkBefore, IsRight, kind_in, mark_in}
 use Rattle.lin_session.specs.declared.kept.Object.{Object}

@@ -10,12 +10,12 @@ use Rattle.lin_events.specs.WellFormedLaws.{BeginningsAreWellFormed}
 use Rattle.lin_objects.specs.declared.kinds.Kind.{Kind}
 use Rattle.lin_objects.specs.Kinds.{functions_of}
 use Rattle.lin_objects.specs.Steps.{Step, start}
-use Rattle.lin_orders.specs.declared.placed.Placed.{Placed}
-use Rattle.lin_orders.specs.Linearizable.{IsLegalOrderFor, IsLinearizableFor, IsLegalOrderAs, IsLinearizableAs}
-use Rattle.lin_orders.specs.Orders.{is_of_key}
-use Rattle.lin_orders.specs.Parts.{ArePositionsOf, IsCut, events_at, part, renamed}
-use Rattle.lin_orders.specs.PartLaws.{PositionsSpellParts, PartsOfPrefixes, PartsUpToPositions, PartsAreWellFormed, RenamedOrdersAreLegal, OrdersCanBeRenamed, LinearizableByPart}
-use Rattle.lin_orders.specs.Configurations.{IsOver}
+use Rattle.lin_order.specs.declared.placed.Placed.{Placed}
+use Rattle.lin_order.specs.Linearizable.{IsLegalOrderFor, IsLinearizableFor, IsLegalOrderAs, IsLinearizableAs}
+use Rattle.lin_order.specs.Orders.{is_of_key}
+use Rattle.lin_order.specs.Parts.{ArePositionsOf, IsCut, events_at, part, renamed}
+use Rattle.lin_order.specs.PartLaws.{PositionsSpellParts, PartsOfPrefixes, PartsUpToPositions, PartsAreWellFormed, RenamedOrdersAreLegal, OrdersCanBeRenamed, LinearizableByPart}
+use Rattle.lin_order.specs.Configurations.{IsOver}
 use Rattle.lin_engines.specs.declared.ends.End.{End}
 use Rattle.lin_engines.specs.declared.ends.End.TheVariants.{Alive, Dead, Over}
 use Rattle.lin_engines.specs.Ends.{IsEndOf}

@@ -6,7 +6,7 @@ use Rattle.lin_events.specs.declared.items.Item.{Item}
 use Rattle.lin_events.specs.Sameness.{Decides-item_eq}
 use Rattle.lin_events.specs.Items.{item_eq}
 use Rattle.lin_events.specs.declared.events.Event.{Event}
-use Rattle.lin_orders.specs.Parts.{part}
+use Rattle.lin_order.specs.Parts.{part}
 use Rattle.lin_engines.specs.declared.ends.End.{End}
 use Rattle.lin_chain.specs.Work.{IsSpent, IsSpentAtMost, Mark, for_stop, left, unasked}
 use Rattle.lin_answers.specs.declared.answers.Scope.{Scope}

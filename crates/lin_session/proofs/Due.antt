@@ -4,7 +4,7 @@ use Rattle.std.specs.List.{sum_by}
 use Rattle.std.proofs.lemmas.Bool.{cases_lt}
 use Rattle.lin_events.specs.declared.items.Item.{Item}
 use Rattle.lin_events.specs.declared.events.Event.{Event}
-use Rattle.lin_orders.specs.Parts.{part}
+use Rattle.lin_order.specs.Parts.{part}
 use Rattle.lin_chain.specs.Work.{Mark}
 use Rattle.lin_answers.specs.declared.answers.Scope.TheVariants.{Object, Whole}
 use Rattle.lin_session.specs.Work.{due_in, keys_of}

@@ -5,8 +5,8 @@ use Rattle.std.proofs.lemmas.Option.{none-some, same_Some, slice_get_within}
 use Rattle.lin_events.specs.declared.items.Item.{Item}
 use Rattle.lin_events.specs.declared.events.Event.{Event}
 use Rattle.lin_objects.specs.declared.kinds.Kind.{Kind}
-use Rattle.lin_orders.specs.Orders.{is_of_key}
-use Rattle.lin_orders.specs.Parts.{part}
+use Rattle.lin_order.specs.Orders.{is_of_key}
+use Rattle.lin_order.specs.Parts.{part}
 use Rattle.lin_engines.specs.declared.ends.End.TheVariants.{Alive, Over}
 use Rattle.lin_engines.specs.Ends.{IsEndOf}
 use Rattle.lin_chain.specs.Chains.{mark_in, told_in}
@@ -22,7 +22,7 @@ use Rattle.lin_session.specs.Objects.{AreRight, IsObject, split_in}
 use Rattle.lin_session.specs.inner.Judgements.{IsMarkedBy, IsTold}
 use Rattle.lin_session.specs.inner.Objects.{marks_in}
 use Rattle.lin_session.specs.Known.{count_before}
-use Rattle.lin_orders.specs.PartLaws.{PositionsSpellParts}
+use Rattle.lin_order.specs.PartLaws.{PositionsSpellParts}
 use Rattle.lin_engines.specs.declared.ends.End.{End}
 use Rattle.lin_session.proofs.Asking.{spelled_length_of}
 use Rattle.lin_session.proofs.Listed.{is_listed, mark_listed, mark_unlisted}

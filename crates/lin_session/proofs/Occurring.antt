@@ -6,7 +6,7 @@ use Rattle.lin_events.specs.Sameness.{Decides-item_eq}
 use Rattle.lin_events.specs.Items.{item_eq}
 use Rattle.lin_events.specs.declared.events.Event.{Event}
 use Rattle.lin_events.specs.Operations.{IsEvent}
-use Rattle.lin_orders.specs.Parts.{part}
+use Rattle.lin_order.specs.Parts.{part}
 use Rattle.lin_session.proofs.Around.{part-same}
 
 pub event_there : (h : List Event) (key : Item) → 0 < length (part key h) → (at : ℕ) × (event : Event) × IsEvent h at event × (event.key ≡ key)

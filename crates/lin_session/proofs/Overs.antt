@@ -6,7 +6,7 @@ use Rattle.lin_events.specs.declared.calls.Call.{Call}
 use Rattle.lin_events.specs.declared.calls.Reply.{Reply}
 use Rattle.lin_objects.specs.declared.kinds.Kind.{Kind}
 use Rattle.lin_objects.specs.Steps.{Step, start}
-use Rattle.lin_orders.specs.Configurations.{IsOver}
+use Rattle.lin_order.specs.Configurations.{IsOver}
 use Rattle.lin_engines.specs.declared.ends.End.TheVariants.{Over}
 use Rattle.lin_engines.specs.Ends.{IsEndOf}
 

@@ -9,9 +9,9 @@ use Rattle.lin_events.specs.Sameness.{Decides-item_eq}
 use Rattle.lin_events.specs.Items.{item_eq}
 use Rattle.lin_events.specs.declared.events.Event.{Event}
 use Rattle.lin_events.specs.Operations.{IsEvent}
-use Rattle.lin_orders.specs.Orders.{is_of_key}
-use Rattle.lin_orders.specs.Parts.{ArePositionsOf, IsNth, IsCut}
-use Rattle.lin_orders.specs.PartLaws.{PartsOfPrefixes, PartsGrow}
+use Rattle.lin_order.specs.Orders.{is_of_key}
+use Rattle.lin_order.specs.Parts.{ArePositionsOf, IsNth, IsCut}
+use Rattle.lin_order.specs.PartLaws.{PartsOfPrefixes, PartsGrow}
 use Rattle.lin_lists.specs.lemmas.Lists.{get_taken, take_next}
 use Rattle.lin_lists.specs.lemmas.Taken.{get_of_take}
 

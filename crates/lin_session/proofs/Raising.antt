@@ -4,7 +4,7 @@ use Rattle.std.proofs.lemmas.Option.{slice_get_within}
 use Rattle.lin_events.specs.declared.items.Item.{Item}
 use Rattle.lin_events.specs.declared.events.Event.{Event}
 use Rattle.lin_objects.specs.declared.kinds.Kind.{Kind}
-use Rattle.lin_orders.specs.Parts.{ArePositionsOf, part}
+use Rattle.lin_order.specs.Parts.{ArePositionsOf, part}
 use Rattle.lin_chain.specs.Chains.{mark_in}
 use Rattle.lin_session.specs.declared.kept.Object.{Object}
 use Rattle.lin_session.specs.Objects.{AreKept, listed_known}

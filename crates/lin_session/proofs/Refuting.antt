@@ -10,11 +10,11 @@ use Rattle.lin_events.specs.Items.{item_eq}
 use Rattle.lin_events.specs.declared.events.Event.{Event}
 use Rattle.lin_objects.specs.declared.kinds.Kind.{Kind}
 use Rattle.lin_objects.specs.Steps.{Step, start}
-use Rattle.lin_orders.specs.Orders.{is_of_key}
-use Rattle.lin_orders.specs.Parts.{ArePositionsOf, events_at, part}
-use Rattle.lin_orders.specs.PartLaws.{PositionsSpellParts, PartsUpToPositions}
+use Rattle.lin_order.specs.Orders.{is_of_key}
+use Rattle.lin_order.specs.Parts.{ArePositionsOf, events_at, part}
+use Rattle.lin_order.specs.PartLaws.{PositionsSpellParts, PartsUpToPositions}
 use Rattle.lin_order.specs.Refutations.{Config, IsRefutation}
-use Rattle.lin_orders.specs.Configurations.{IsOver}
+use Rattle.lin_order.specs.Configurations.{IsOver}
 use Rattle.lin_engines.specs.declared.ends.End.TheVariants.{Dead}
 use Rattle.lin_chain.specs.declared.chain.RefuteFault.{RefuteFault}
 use Rattle.lin_chain.specs.declared.chain.RefuteFault.TheVariants.{NotDead, TooLarge, OutOfMemory}

@@ -5,7 +5,7 @@ use Rattle.lin_events.specs.Sameness.{Decides-item_eq}
 use Rattle.lin_events.specs.Items.{item_eq}
 use Rattle.lin_events.specs.declared.events.Event.{Event}
 use Rattle.lin_objects.specs.declared.kinds.Kind.{Kind}
-use Rattle.lin_orders.specs.Parts.{part, ArePositionsOf}
+use Rattle.lin_order.specs.Parts.{part, ArePositionsOf}
 use Rattle.lin_chain.specs.Chains.{IsFor, IsRight, kind_in, mark_in}
 use Rattle.lin_chain.specs.Work.{unasked}
 use Rattle.lin_session.specs.declared.kept.Object.{Object}

@@ -4,7 +4,7 @@ use Rattle.std.specs.Global.{Vec}
 use Rattle.lin_events.specs.declared.items.Item.{Item}
 use Rattle.lin_events.specs.WellFormed.{IsWellFormed}
 use Rattle.lin_objects.specs.Kinds.{functions_of}
-use Rattle.lin_orders.specs.declared.placed.Placed.{Placed}
+use Rattle.lin_order.specs.declared.placed.Placed.{Placed}
 use Rattle.lin_answers.specs.declared.answers.Answer.TheVariants as answer
 use Rattle.lin_answers.specs.declared.answers.Verdict.{Verdict}
 use Rattle.lin_answers.specs.declared.answers.Verdict.TheVariants.{IllFormed, Yes, No, Undecided}

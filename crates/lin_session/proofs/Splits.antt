@@ -7,8 +7,8 @@ use Rattle.lin_events.specs.declared.items.Item.{Item}
 use Rattle.lin_events.specs.declared.events.Event.{Event}
 use Rattle.lin_events.specs.Operations.{IsEvent}
 use Rattle.lin_objects.specs.declared.kinds.Kind.{Kind}
-use Rattle.lin_orders.specs.Parts.{ArePositionsOf, part}
-use Rattle.lin_orders.specs.PartLaws.{PartsOfPrefixes, PartsGrow}
+use Rattle.lin_order.specs.Parts.{ArePositionsOf, part}
+use Rattle.lin_order.specs.PartLaws.{PartsOfPrefixes, PartsGrow}
 use Rattle.lin_chain.specs.Chains.{IsFor, IsRight, kind_in, mark_in}
 use Rattle.lin_chain.specs.Work.{unasked}
 use Rattle.lin_session.specs.declared.kept.Object.{Object}

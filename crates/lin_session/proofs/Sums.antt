@@ -9,7 +9,7 @@ use Rattle.lin_events.specs.declared.items.Item.{Item}
 use Rattle.lin_events.specs.Sameness.{Decides-item_eq}
 use Rattle.lin_events.specs.Items.{item_eq}
 use Rattle.lin_events.specs.declared.events.Event.{Event}
-use Rattle.lin_orders.specs.Parts.{part}
+use Rattle.lin_order.specs.Parts.{part}
 use Rattle.lin_session.specs.Work.{keys_of}
 use Rattle.lin_session.proofs.Around.{part-same}
 use Rattle.lin_session.proofs.Listed.{IsOnce, once_head, once_rest}

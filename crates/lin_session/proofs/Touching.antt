@@ -10,8 +10,8 @@ use Rattle.lin_events.specs.declared.items.Item.{Item}
 use Rattle.lin_events.specs.Sameness.{Decides-item_eq}
 use Rattle.lin_events.specs.Items.{item_eq}
 use Rattle.lin_events.specs.declared.events.Event.{Event}
-use Rattle.lin_orders.specs.Orders.{is_of_key}
-use Rattle.lin_orders.specs.Parts.{part}
+use Rattle.lin_order.specs.Orders.{is_of_key}
+use Rattle.lin_order.specs.Parts.{part}
 use Rattle.lin_chain.specs.Chains.{IsMarkBefore}
 use Rattle.lin_chain.specs.Work.{Mark}
 use Rattle.lin_session.specs.inner.Objects.{AreTouched}

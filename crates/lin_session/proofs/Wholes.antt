@@ -18,12 +18,12 @@ use Rattle.lin_events.specs.WellFormedLaws.{BeginningsAreWellFormed}
 use Rattle.lin_objects.specs.declared.kinds.Kind.{Kind}
 use Rattle.lin_objects.specs.Kinds.{functions_of}
 use Rattle.lin_objects.specs.Steps.{Step, start}
-use Rattle.lin_orders.specs.Laws.{PrefixesAreLinearizableFor}
-use Rattle.lin_orders.specs.Linearizable.{IsLinearizable, IsLinearizableFor, IsLinearizableBy}
-use Rattle.lin_orders.specs.Merging.{AbsentKeysAreLegal, IsLocal}
-use Rattle.lin_orders.specs.Parts.{part}
-use Rattle.lin_orders.specs.PartLaws.{LinearizableByPart}
-use Rattle.lin_orders.specs.Configurations.{IsConfiguration}
+use Rattle.lin_order.specs.Laws.{PrefixesAreLinearizableFor}
+use Rattle.lin_order.specs.Linearizable.{IsLinearizable, IsLinearizableFor, IsLinearizableBy}
+use Rattle.lin_order.specs.Merging.{AbsentKeysAreLegal, IsLocal}
+use Rattle.lin_order.specs.Parts.{part}
+use Rattle.lin_order.specs.PartLaws.{LinearizableByPart}
+use Rattle.lin_order.specs.Configurations.{IsConfiguration}
 use Rattle.lin_answers.specs.declared.answers.Verdict.{Verdict}
 use Rattle.lin_answers.specs.declared.answers.Verdict.TheVariants.{Yes, No, Undecided}
 use Rattle.lin_answers.specs.Answers.{IsShortestWithout, IsOverAt, IsWholeVerdict}

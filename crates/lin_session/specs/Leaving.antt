@@ -3,8 +3,8 @@ use Rattle.std.specs.Prelude.{◌≡◌, ◌≤◌, ◌*◌, ◌/◌, ◌||◌, 
 use Rattle.lin_events.specs.declared.items.Item.{Item}
 use Rattle.lin_events.specs.Items.{item_eq}
 use Rattle.lin_events.specs.Operations.{IsEvent}
-use Rattle.lin_orders.specs.Orders.{is_of_key}
-use Rattle.lin_orders.specs.Parts.{part}
+use Rattle.lin_order.specs.Orders.{is_of_key}
+use Rattle.lin_order.specs.Parts.{part}
 use Rattle.lin_engines.specs.declared.ends.End.{End}
 use Rattle.lin_engines.specs.declared.ends.End.TheVariants.{Over}
 use Rattle.lin_chain.specs.Chains.{IsDecided, IsMarkBefore}

@@ -3,8 +3,8 @@ use Rattle.std.specs.Prelude.{◌≡◌, ◌<◌, ◌≤◌, ◌-◌, true, List
 use Rattle.lin_events.specs.declared.items.Item.{Item}
 use Rattle.lin_events.specs.declared.events.Event.{Event}
 use Rattle.lin_objects.specs.declared.kinds.Kind.{Kind}
-use Rattle.lin_orders.specs.Orders.{is_of_key}
-use Rattle.lin_orders.specs.Parts.{part}
+use Rattle.lin_order.specs.Orders.{is_of_key}
+use Rattle.lin_order.specs.Parts.{part}
 use Rattle.lin_engines.specs.declared.ends.End.{End}
 use Rattle.lin_engines.specs.declared.ends.End.TheVariants.{Alive, Dead, Over}
 use Rattle.lin_engines.specs.Exacts.{HasExact}

@@ -4,7 +4,7 @@ use Rattle.lin_events.specs.declared.items.Item.{Item}
 use Rattle.lin_events.specs.declared.events.Event.{Event}
 use Rattle.lin_events.specs.Operations.{IsEvent}
 use Rattle.lin_objects.specs.declared.kinds.Kind.{Kind}
-use Rattle.lin_orders.specs.Parts.{ArePositionsOf, part}
+use Rattle.lin_order.specs.Parts.{ArePositionsOf, part}
 use Rattle.lin_engines.specs.declared.says.Says.TheVariants.{On, Dead, Gone}
 use Rattle.lin_engines.specs.Exacts.{reach_of_exact}
 use Rattle.lin_engines.specs.Replays.{reach_of_replay}

@@ -1,7 +1,7 @@
 -- What comes of refuting an object.
 use Rattle.std.specs.Prelude.{◌≢◌, ℕ, List, take}
 use Rattle.lin_events.specs.declared.items.Item.{Item}
-use Rattle.lin_orders.specs.Parts.{part}
+use Rattle.lin_order.specs.Parts.{part}
 use Rattle.lin_order.specs.Refutations.{Config, IsRefutation, sets_of}
 use Rattle.lin_chain.specs.declared.chain.RefuteFault.{RefuteFault}
 use Rattle.lin_chain.specs.declared.chain.RefuteFault.TheVariants.{NotDead, TooLarge, OutOfMemory}

@@ -4,7 +4,7 @@ use Rattle.std.specs.List.{sum_by}
 use Rattle.lin_events.specs.declared.items.Item.{Item}
 use Rattle.lin_events.specs.Items.{item_eq}
 use Rattle.lin_events.specs.declared.events.Event.{Event}
-use Rattle.lin_orders.specs.Parts.{part}
+use Rattle.lin_order.specs.Parts.{part}
 use Rattle.lin_chain.specs.Work.{Mark, for_stop, left}
 use Rattle.lin_answers.specs.declared.answers.Scope.{Scope}
 use Rattle.lin_answers.specs.declared.answers.Scope.TheVariants.{Object, Whole}

@@ -4,7 +4,7 @@ ghost use Rattle.lin_events.specs.declared.items.Item.{Item as ItemOf};
 ghost use Rattle.lin_events.specs.WellFormed.{IsWellFormed};
 ghost use Rattle.lin_objects.specs.declared.kinds.Kind.{Kind as KindOf};
 ghost use Rattle.lin_objects.specs.Kinds.{functions_of, kind_of};
-ghost use Rattle.lin_orders.specs.Parts.{part};
+ghost use Rattle.lin_order.specs.Parts.{part};
 ghost use Rattle.lin_order.specs.Refutations.{IsRefutation, sets_of};
 ghost use Rattle.lin_engines.specs.Exacts.{HasExact};
 ghost use Rattle.lin_answers.specs.declared.answers.Verdict.TheVariants as verdicts;
@@ -21,10 +21,9 @@ use lin_answers::{Scope, Verdict};
 use lin_chain::RefuteFault;
 use lin_events::{Event, Item, Meter, OutOfMemory, beginnings_are_well_formed};
 use lin_objects::Kinds;
-use lin_order::Refutation;
-use lin_orders::{
-    absent_keys_are_legal, linearizability_is_local, parts_keep_operations, parts_keep_orders,
-    parts_of_prefixes, positions_spell_parts, prefixes_are_linearizable,
+use lin_order::{
+    Refutation, absent_keys_are_legal, linearizability_is_local, parts_keep_operations,
+    parts_keep_orders, parts_of_prefixes, positions_spell_parts, prefixes_are_linearizable,
 };
 use std::alloc::Global;
 

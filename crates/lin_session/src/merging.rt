@@ -4,8 +4,8 @@ ghost use Rattle.std.specs.List.{AllZip};
 ghost use Rattle.lin_events.specs.declared.items.Item.{Item as ItemOf};
 ghost use Rattle.lin_events.specs.WellFormed.{IsWellFormed};
 ghost use Rattle.lin_objects.specs.Kinds.{functions_of, kind_of};
-ghost use Rattle.lin_orders.specs.Linearizable.{IsLegalOrder, IsLegalOrderFor};
-ghost use Rattle.lin_orders.specs.Merging.{lists_of};
+ghost use Rattle.lin_order.specs.Linearizable.{IsLegalOrder, IsLegalOrderFor};
+ghost use Rattle.lin_order.specs.Merging.{lists_of};
 ghost use Rattle.lin_engines.specs.declared.ends.End.TheVariants as ends;
 ghost use Rattle.lin_answers.specs.declared.answers.Verdict.TheVariants as verdicts;
 ghost use Rattle.lin_session.specs.inner.Judgements.{IsOrderFor};
@@ -17,7 +17,7 @@ use crate::kept::Objects;
 use lin_answers::Scope;
 use lin_events::{Event, Item, OutOfMemory};
 use lin_objects::Kinds;
-use lin_orders::{
+use lin_order::{
     Placed, absent_keys_are_legal, merge, merged_orders_are_legal, parts_keep_orders,
     positions_spell_parts,
 };

@@ -4,8 +4,8 @@ ghost use Rattle.lin_events.specs.declared.items.Item.{Item as ItemOf};
 ghost use Rattle.lin_events.specs.declared.calls.Name.{Name as NameOf};
 ghost use Rattle.lin_events.specs.declared.events.Event.{Event as EventOf};
 ghost use Rattle.lin_events.specs.WellFormed.{IsWellFormed};
-ghost use Rattle.lin_orders.specs.Parts.{events_at, part, renamed};
-ghost use Rattle.lin_orders.specs.Linearizable.{IsLegalOrderAs};
+ghost use Rattle.lin_order.specs.Parts.{events_at, part, renamed};
+ghost use Rattle.lin_order.specs.Linearizable.{IsLegalOrderAs};
 ghost use Rattle.lin_engines.specs.declared.ends.End.{End as EndOf};
 ghost use Rattle.lin_engines.specs.Ends.{IsEndOf};
 ghost use Rattle.lin_engines.specs.Exacts.{HasExact};
@@ -18,7 +18,7 @@ use crate::kept::Object;
 use lin_chain::{Chain, End};
 use lin_events::{Event, Item, Meter, OutOfMemory};
 use lin_objects::Kind;
-use lin_orders::Placed;
+use lin_order::Placed;
 use std::alloc::Global;
 
 impl Object {

@@ -5,8 +5,8 @@ ghost use Rattle.lin_events.specs.Items.{item_eq};
 ghost use Rattle.lin_events.specs.declared.events.Event.{Event as EventOf};
 ghost use Rattle.lin_objects.specs.declared.kinds.Kind.{Kind as KindOf};
 ghost use Rattle.lin_objects.specs.Kinds.{kind_of};
-ghost use Rattle.lin_orders.specs.Orders.{is_of_key};
-ghost use Rattle.lin_orders.specs.Parts.{ArePositionsOf, part};
+ghost use Rattle.lin_order.specs.Orders.{is_of_key};
+ghost use Rattle.lin_order.specs.Parts.{ArePositionsOf, part};
 ghost use Rattle.lin_chain.specs.Work.{unasked};
 ghost use Rattle.lin_session.specs.Objects.{AreRight, split_in};
 ghost use Rattle.lin_session.specs.inner.Objects.{AreAppended, AreRekinded, AreTouched, marks_in};
@@ -18,7 +18,7 @@ use crate::object::raise_all;
 use indexmap::IndexSet;
 use lin_events::{Event, Item, OutOfMemory};
 use lin_objects::{Kind, Kinds};
-use lin_orders::{parts_grow, parts_of_prefixes};
+use lin_order::{parts_grow, parts_of_prefixes};
 use std::alloc::Global;
 
 impl Objects {

@@ -11,8 +11,8 @@ use Rattle.lin_events.specs.declared.events.Event.{Event}
 use Rattle.lin_events.specs.declared.events.Body.TheVariants.{Ok}
 use Rattle.lin_events.specs.lemmas.OneMore.{end_inside}
 use Rattle.lin_lists.specs.lemmas.Elements.{pairs_last, pairs_left}
-use Rattle.lin_orders.specs.lemmas.OneEnd.{one_end}
-use Rattle.lin_intervals.specs.Acts.{AreActs}
+use Rattle.lin_order.specs.lemmas.OneEnd.{one_end}
+use Rattle.lin_sets.specs.Acts.{AreActs}
 use Rattle.lin_sets.specs.Parts.{AreReads, IsEarlier, IsFound}
 use Rattle.lin_sets.specs.Steps.{ReturnsNext}
 use Rattle.lin_sets.specs.declared.intervals.Intervals.{Intervals}

@@ -13,9 +13,9 @@ use Rattle.lin_events.specs.declared.events.Body.TheVariants.{Invoke, Ok, Fail}
 use Rattle.lin_events.specs.Operations.{IsEnd, IsFailed}
 use Rattle.lin_events.specs.lemmas.OneMore.{end_cases, failed_kept, ok_before}
 use Rattle.lin_lists.specs.lemmas.Lists.{get_set_cases}
-use Rattle.lin_orders.specs.Orders.{IsCall}
-use Rattle.lin_failures.specs.SetConflicts.{HadAt}
-use Rattle.lin_orders.specs.lemmas.OneEnd.{one_call}
+use Rattle.lin_order.specs.Orders.{IsCall}
+use Rattle.lin_certificates.specs.SetConflicts.{HadAt}
+use Rattle.lin_order.specs.lemmas.OneEnd.{one_call}
 use Rattle.lin_sets.specs.Places.{IsPut, place_in}
 use Rattle.lin_sets.specs.Endings.{known_in}
 use Rattle.lin_sets.specs.declared.endings.Endings.{Endings}

@@ -4,7 +4,7 @@ use Rattle.std.proofs.lemmas.Bool.{cases_lt}
 use Rattle.std.proofs.lemmas.List.{get_or_default}
 use Rattle.std.proofs.lemmas.List.Elements.{Contains-append_left, Contains-push, Contains-push_cases}
 use Rattle.lin_events.specs.declared.items.Item.{Item}
-use Rattle.lin_orders.specs.lemmas.Lists.{take_more}
+use Rattle.lin_order.specs.lemmas.Lists.{take_more}
 use Rattle.lin_lists.specs.lemmas.Elements.{nothing_in}
 use Rattle.lin_sets.specs.Places.{place_in}
 use Rattle.lin_sets.specs.Steps.{IsLatest, IsFittingSince, IsUnfit}

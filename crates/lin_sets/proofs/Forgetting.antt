@@ -3,7 +3,7 @@ use Rattle.std.proofs.Common.{◌≡◌, ◌<◌, ◌≤◌, ◌-◌, ◌+◌, �
 use Rattle.std.proofs.lemmas.Bool.{cases_lt}
 use Rattle.std.proofs.lemmas.List.{get_or_default, take_all}
 use Rattle.std.proofs.lemmas.List.Elements.{Contains-append_left, Contains-push, Contains-push_cases}
-use Rattle.lin_orders.specs.lemmas.Lists.{take_more}
+use Rattle.lin_order.specs.lemmas.Lists.{take_more}
 use Rattle.lin_lists.specs.lemmas.Elements.{pairs_left, pairs_last}
 use Rattle.lin_sets.specs.Places.{IsPut}
 use Rattle.lin_sets.specs.declared.endings.Ending.{Ending}

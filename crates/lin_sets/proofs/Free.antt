@@ -9,9 +9,9 @@ use Rattle.lin_events.specs.declared.calls.Reply.{Reply}
 use Rattle.lin_events.specs.declared.calls.Reply.TheVariants as Replied
 use Rattle.lin_events.specs.declared.events.Event.{Event}
 use Rattle.lin_events.specs.Operations.{IsOk}
-use Rattle.lin_orders.specs.Orders.{IsCall}
-use Rattle.lin_failures.specs.SetConflicts.{Has, HadAt, Lacks, FoundAt}
-use Rattle.lin_intervals.specs.Conflicts.{HasNoAddBy, IsInConflict}
+use Rattle.lin_order.specs.Orders.{IsCall}
+use Rattle.lin_certificates.specs.SetConflicts.{Has, HadAt, Lacks, FoundAt}
+use Rattle.lin_sets.specs.Conflicts.{HasNoAddBy, IsInConflict}
 use Rattle.lin_sets.specs.Places.{place_in}
 use Rattle.lin_sets.specs.Endings.{known_in}
 use Rattle.lin_sets.specs.Levels.{IsBelow}

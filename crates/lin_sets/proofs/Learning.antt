@@ -9,7 +9,7 @@ use Rattle.lin_sets.specs.Places.{IsPut}
 use Rattle.lin_sets.specs.declared.endings.Ending.{Ending}
 use Rattle.lin_sets.specs.declared.endings.Endings.{Endings}
 use Rattle.lin_sets.specs.Endings.{AreBy, AreLearned, AreListed, IsAhead, known_in}
-use Rattle.lin_orders.specs.lemmas.Lists.{take_more}
+use Rattle.lin_order.specs.lemmas.Lists.{take_more}
 use Rattle.std.proofs.lemmas.List.{get_or_default}
 use Rattle.lin_sets.proofs.Finding.{any_default}
 use Rattle.lin_sets.proofs.Putting.{put_cases, put_here}

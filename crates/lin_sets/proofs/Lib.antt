@@ -19,3 +19,15 @@ mod Undone
 mod Same
 mod Merging
 mod Beyond
+pub mod Ordered
+pub mod Most
+pub mod Chained
+pub mod Timing
+pub mod Acts
+pub mod Answering
+pub mod Legal
+pub mod Refuting
+pub mod Numbering
+pub mod Making
+pub mod Sorting
+pub mod ConflictsStanding

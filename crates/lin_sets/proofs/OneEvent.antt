@@ -13,9 +13,9 @@ use Rattle.lin_events.specs.Operations.{IsEnd, IsOk}
 use Rattle.lin_events.specs.lemmas.OneMore.{operation_kept, operation_before, end_cases, ok_kept, ok_before, end_inside}
 use Rattle.lin_events.specs.lemmas.StatusLemmas.{one_event}
 use Rattle.lin_lists.specs.lemmas.Lists.{get_last}
-use Rattle.lin_orders.specs.Orders.{IsCall}
-use Rattle.lin_orders.specs.lemmas.OneEnd.{one_call as of_one}
-use Rattle.lin_failures.specs.SetConflicts.{Has, HadAt}
+use Rattle.lin_order.specs.Orders.{IsCall}
+use Rattle.lin_order.specs.lemmas.OneEnd.{one_call as of_one}
+use Rattle.lin_certificates.specs.SetConflicts.{Has, HadAt}
 use Rattle.lin_sets.specs.Parts.{IsFound}
 use Rattle.lin_sets.specs.Steps.{ReturnsNext}
 

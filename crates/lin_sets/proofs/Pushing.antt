@@ -13,7 +13,7 @@ use Rattle.lin_events.specs.declared.events.Body.TheVariants.{Invoke, Ok, Fail}
 use Rattle.lin_events.specs.Operations.{IsEnd, IsEvent, IsOpen, IsOperation}
 use Rattle.lin_events.specs.lemmas.OneMore.{failed_before, failed_kept, invoked, alternates_before, operation_before, operation_kept, end_inside, ok_before, one_caller, one_call}
 use Rattle.lin_lists.specs.lemmas.Lists.{get_left, get_cases, get_last}
-use Rattle.lin_orders.specs.Orders.{IsCall}
+use Rattle.lin_order.specs.Orders.{IsCall}
 use Rattle.lin_sets.specs.declared.openings.Opened.{Opened}
 use Rattle.lin_sets.specs.Openings.{opened_in}
 use Rattle.lin_sets.specs.Places.{IsListed, IsListing, IsNoted, place_in}

@@ -12,9 +12,9 @@ use Rattle.lin_events.specs.declared.events.Body.{Body}
 use Rattle.lin_events.specs.declared.events.Body.TheVariants.{Invoke, Ok, Fail}
 use Rattle.lin_events.specs.Operations.{IsFailed}
 use Rattle.lin_events.specs.lemmas.OneMore.{end_inside, end_kept, failed_kept}
-use Rattle.lin_orders.specs.lemmas.OneEnd.{one_end}
-use Rattle.lin_failures.specs.SetConflicts.{HadAt, FoundAt}
-use Rattle.lin_intervals.specs.Conflicts.{HasNoAddBy, IsAnswer, IsInConflict}
+use Rattle.lin_order.specs.lemmas.OneEnd.{one_end}
+use Rattle.lin_certificates.specs.SetConflicts.{HadAt, FoundAt}
+use Rattle.lin_sets.specs.Conflicts.{HasNoAddBy, IsAnswer, IsInConflict}
 use Rattle.lin_sets.specs.Places.{place_in}
 use Rattle.lin_sets.specs.Endings.{known_in}
 use Rattle.lin_sets.specs.Levels.{IsOutside}

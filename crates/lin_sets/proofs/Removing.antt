@@ -6,7 +6,7 @@ use Rattle.std.proofs.lemmas.List.Quantifiers.{all_pairs_remove}
 use Rattle.lin_events.specs.declared.items.Item.{Item}
 use Rattle.lin_lists.specs.lemmas.Elements.{first_or_rest}
 use Rattle.lin_lists.specs.lemmas.Taken.{split_at}
-use Rattle.lin_failures.specs.lemmas.Conflicting.{across}
+use Rattle.lin_certificates.specs.lemmas.Conflicting.{across}
 use Rattle.lin_sets.specs.Levels.{AreWithout, IsBelow}
 
 -- no set is below itself

@@ -14,9 +14,9 @@ use Rattle.lin_events.specs.declared.calls.Reply.TheVariants as Replied
 use Rattle.lin_events.specs.declared.events.Event.{Event}
 use Rattle.lin_events.specs.lemmas.OneMore.{end_inside}
 use Rattle.lin_lists.specs.lemmas.Elements.{first_or_rest}
-use Rattle.lin_orders.specs.Orders.{IsCall}
-use Rattle.lin_failures.specs.SetConflicts.{Has, HadAt}
-use Rattle.lin_intervals.specs.Conflicts.{IsAnswer}
+use Rattle.lin_order.specs.Orders.{IsCall}
+use Rattle.lin_certificates.specs.SetConflicts.{Has, HadAt}
+use Rattle.lin_sets.specs.Conflicts.{IsAnswer}
 use Rattle.lin_sets.specs.Places.{place_in}
 use Rattle.lin_sets.specs.Endings.{AreBy, AreLearned, AreListed, known_in}
 use Rattle.lin_sets.specs.declared.endings.Endings.{Endings}
@@ -31,7 +31,7 @@ use Rattle.lin_sets.proofs.Learning.{cases_of, not_none, one_place}
 use Rattle.lin_sets.proofs.Free.{known_of}
 use Rattle.lin_sets.proofs.Removing.{not_itself}
 use Rattle.lin_sets.proofs.OneEvent.{call_at, had_kept, had_cases, found_kept, found_cases, ok_cases, new_had, new_ok, begun_inside}
-use Rattle.lin_orders.specs.lemmas.OneEnd.{one_call}
+use Rattle.lin_order.specs.lemmas.OneEnd.{one_call}
 
 had_inside : (h : List Event) (at : ℕ) (item : Item) (end : ℕ) → HadAt h at item end → end < length h
 had_inside h at item end had = end_inside h at end had.3.0 had.3.1

@@ -17,10 +17,10 @@ use Rattle.lin_events.specs.Operations.{IsEnd, IsEvent, IsFailed, IsOperation}
 use Rattle.lin_events.specs.lemmas.OneMore.{end_before, end_cases, end_inside, end_kept, failed_kept, invoked, ok_kept, operation_before, operation_kept}
 use Rattle.lin_events.specs.lemmas.StatusLemmas.{one_event}
 use Rattle.lin_lists.specs.lemmas.Lists.{get_begun, get_cases, get_last, get_left, get_set_cases, get_taken}
-use Rattle.lin_orders.specs.Orders.{IsCall}
-use Rattle.lin_orders.specs.lemmas.Assembling.{operation_inside}
-use Rattle.lin_orders.specs.lemmas.OneEnd.{one_call, one_end}
-use Rattle.lin_failures.specs.SetConflicts.{HadAt}
+use Rattle.lin_order.specs.Orders.{IsCall}
+use Rattle.lin_order.specs.lemmas.Assembling.{operation_inside}
+use Rattle.lin_order.specs.lemmas.OneEnd.{one_call, one_end}
+use Rattle.lin_certificates.specs.SetConflicts.{HadAt}
 use Rattle.lin_sets.specs.declared.openings.Opened.{Opened}
 use Rattle.lin_sets.specs.declared.changes.Change.{Change}
 use Rattle.lin_sets.specs.Openings.{IsRestored, opened_in}

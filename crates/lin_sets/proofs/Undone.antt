@@ -11,8 +11,8 @@ use Rattle.lin_events.specs.declared.calls.Name.{Name}
 use Rattle.lin_events.specs.declared.calls.Reply.TheVariants as Replied
 use Rattle.lin_events.specs.Operations.{IsEnd}
 use Rattle.lin_events.specs.lemmas.OneMore.{end_cases, end_inside, failed_before, invoked}
-use Rattle.lin_orders.specs.Orders.{IsCall}
-use Rattle.lin_orders.specs.lemmas.OneEnd.{one_call}
+use Rattle.lin_order.specs.Orders.{IsCall}
+use Rattle.lin_order.specs.lemmas.OneEnd.{one_call}
 use Rattle.lin_sets.specs.declared.openings.Opened.{Opened}
 use Rattle.lin_sets.specs.declared.changes.Change.{Change}
 use Rattle.lin_sets.specs.declared.changes.Change.TheVariants.{Invoked, Found, FoundAgain, Failed, Ended}

@@ -14,11 +14,11 @@ use Rattle.lin_events.specs.declared.events.Body.TheVariants.{Invoke, Ok, Fail, 
 use Rattle.lin_events.specs.Items.{item_cmp}
 use Rattle.lin_events.specs.lemmas.OneMore.{completes, invoked}
 use Rattle.lin_events.specs.WellFormed.{Completes}
-use Rattle.lin_intervals.specs.Conflicts.{IsAnswer}
+use Rattle.lin_sets.specs.Conflicts.{IsAnswer}
 use Rattle.lin_lists.specs.Sets.{IsRising}
 use Rattle.lin_lists.specs.lemmas.Elements.{first_or_rest, nothing_in}
-use Rattle.lin_orders.specs.Orders.{IsCall}
-use Rattle.lin_orders.specs.lemmas.OneEnd.{one_call}
+use Rattle.lin_order.specs.Orders.{IsCall}
+use Rattle.lin_order.specs.lemmas.OneEnd.{one_call}
 use Rattle.lin_sets.specs.declared.openings.Opened.{Opened}
 use Rattle.lin_sets.specs.declared.changes.Change.{Change}
 use Rattle.lin_sets.specs.declared.changes.Change.TheVariants.{Invoked, Failed, Ended}

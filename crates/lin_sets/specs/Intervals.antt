@@ -7,7 +7,7 @@ use Rattle.lin_events.specs.declared.events.Event.{Event}
 use Rattle.lin_events.specs.Operations.{IsEvent}
 use Rattle.lin_events.specs.WellFormed.{IsWellFormed}
 use Rattle.lin_objects.specs.declared.kinds.Kind.TheVariants.{Set}
-use Rattle.lin_orders.specs.Linearizable.{IsLinearizableAs}
+use Rattle.lin_order.specs.Linearizable.{IsLinearizableAs}
 use Rattle.lin_sets.specs.declared.intervals.Intervals.{Intervals}
 use Rattle.lin_sets.specs.Places.{IsPut, place_in}
 use Rattle.lin_sets.specs.Endings.{AreListed, known_in}

@@ -7,3 +7,7 @@ pub mod Parts
 pub mod Steps
 pub mod Changes
 pub mod Intervals
+pub mod Conflicts
+pub mod Laws
+pub mod Acts
+pub mod Points

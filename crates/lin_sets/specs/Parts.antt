@@ -7,9 +7,9 @@ use Rattle.lin_events.specs.declared.calls.Reply.{Reply}
 use Rattle.lin_events.specs.declared.calls.Reply.TheVariants as Replied
 use Rattle.lin_events.specs.declared.events.Event.{Event}
 use Rattle.lin_events.specs.Operations.{IsOk, IsFailed, IsOperation}
-use Rattle.lin_orders.specs.Orders.{IsCall}
-use Rattle.lin_failures.specs.SetConflicts.{HadAt}
-use Rattle.lin_intervals.specs.Conflicts.{IsAnswer}
+use Rattle.lin_order.specs.Orders.{IsCall}
+use Rattle.lin_certificates.specs.SetConflicts.{HadAt}
+use Rattle.lin_sets.specs.Conflicts.{IsAnswer}
 use Rattle.lin_sets.specs.declared.openings.Opened.{Opened}
 use Rattle.lin_sets.specs.declared.endings.Endings.{Endings}
 use Rattle.lin_sets.specs.Openings.{opened_in}

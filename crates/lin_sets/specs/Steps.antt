@@ -8,7 +8,7 @@ use Rattle.lin_events.specs.declared.events.Event.{Event}
 use Rattle.lin_events.specs.declared.events.Body.TheVariants.{Ok, Fail}
 use Rattle.lin_events.specs.Alternation.{IsAlternating}
 use Rattle.lin_events.specs.Operations.{IsEnd}
-use Rattle.lin_orders.specs.Orders.{IsCall}
+use Rattle.lin_order.specs.Orders.{IsCall}
 use Rattle.lin_sets.specs.Places.{place_in}
 use Rattle.lin_sets.specs.Parts.{AreAddedBy, Stands}
 use Rattle.lin_sets.specs.declared.endings.Endings.{Endings}

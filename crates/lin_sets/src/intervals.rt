@@ -1,4 +1,18 @@
-//! The intervals in which items of a set were added and known, kept event by event.
+//! The engine that decides a set: in which intervals its items can be in and are known to be.
+//!
+//! `Intervals` takes the events in, one after the other. Of each item it keeps the first add that hasn't failed, from which on it can
+//! be in, and the first ok that shows it, of an add or a read, from which on it is known to be (`places`, `endings`); of the reads what
+//! they found, one set inside the next (`levels`). From these it tells whether an event leaves operations that conflict. A read is
+//! looked up only for what it has beyond one of the last 64 that found no more (`news`): what that one found was looked up before. By
+//! the law of `conflict_laws` a set has a legal order exactly where no operations conflict, so there is nothing to search, and nothing
+//! is ever in doubt, whatever crashed, failed or was added twice.
+//!
+//! Promised of well-formed events: what `take_in` goes on with has a legal order, which `order` tells; where it doesn't go on, the
+//! events up to and with this one have none, and it stays as it was. `cut` goes back to any earlier event: each event notes what it
+//! changed, and this is taken back, without memory.
+//!
+//! An event takes near-constant time; the end of a read time linear in what it found and in what was known since an earlier read was
+//! invoked, times a logarithm; a failed add perhaps time linear in the events. More: docs/SEARCHES.md, 'A set, by intervals'.
 ghost use Rattle.std.specs.Prelude.{◌≡◌, ◌↔◌, ◌<◌, ◌≤◌, ◌⊎◌, ◌+◌, ◌-◌, ◌++◌, ◌∷◌, [], ℕ, List, None, Some, Contains, IsTrue, IfOk, OnOk, OnErr, false, length, min, set, take, vec_len, vec_capacity, AllPairs};
 ghost use Rattle.lin_events.specs.declared.items.Item.{Item as ItemOf};
 ghost use Rattle.lin_events.specs.Items.{item_cmp};
@@ -9,8 +23,8 @@ ghost use Rattle.lin_events.specs.declared.calls.Name.{Name as NameOf};
 ghost use Rattle.lin_events.specs.declared.calls.Reply.TheVariants as Replied;
 ghost use Rattle.lin_lists.specs.Sets.{IsRising};
 ghost use Rattle.lin_objects.specs.declared.kinds.Kind.TheVariants.{Set};
-ghost use Rattle.lin_orders.specs.Linearizable.{IsLegalOrderAs, IsLinearizableAs};
-ghost use Rattle.lin_intervals.specs.Conflicts.{IsInConflict};
+ghost use Rattle.lin_order.specs.Linearizable.{IsLegalOrderAs, IsLinearizableAs};
+ghost use Rattle.lin_sets.specs.Conflicts.{IsInConflict};
 ghost use Rattle.lin_sets.specs.Places.{IsLeft, IsListed, IsListing, IsNoted, place_in};
 ghost use Rattle.lin_sets.specs.Endings.{AreBefore, AreKept, AreListed, known_in};
 ghost use Rattle.lin_sets.specs.Levels.{IsBelow};
@@ -19,14 +33,15 @@ ghost use Rattle.lin_sets.specs.Steps.{EndsNext, FailsNext, IsFitting, IsFitting
 ghost use Rattle.lin_sets.specs.Intervals.{AreAll, AreAllBut, AreIntervalsOf, IsAsBefore, IsMoved, IsNextOf, IsStill, IsStuck, reached_in};
 
 use crate::changes::Change;
+use crate::conflict_laws::conflicts_refute;
 use crate::endings::Endings;
 use crate::levels::{has, put_level, remove_level, take_level_back};
 use crate::news::{News, news_of};
 use crate::openings::{Opened, Openings};
+use crate::orders::order_of_acts;
 use crate::places::ItemPlaces;
 use lin_events::{Body, Call, Event, IntSet, Item, OutOfMemory, Reply};
-use lin_intervals::{conflicts_refute, order_of_acts};
-use lin_orders::Placed;
+use lin_order::Placed;
 use std::alloc::Global;
 
 /// What is known of the first events of a set, as long as no operations conflict, and what each of these changed.

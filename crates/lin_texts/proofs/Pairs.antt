@@ -3,7 +3,7 @@ use Rattle.std.proofs.Common.{◌≡◌, ℕ, ◌+◌, ◌≤◌, List, [], ◌�
 use Rattle.std.specs.Str.{bytes_eq}
 use Rattle.lin_names.specs.Names.{AgreesWith, Begins, Numbering}
 use Rattle.lin_names.specs.lemmas.Begins.{agrees_before}
-use Rattle.lin_orders.specs.declared.placed.Placed.{Placed}
+use Rattle.lin_order.specs.declared.placed.Placed.{Placed}
 use Rattle.lin_texts.specs.Parts.{Part, filled_from, IsFirstFilled}
 use Rattle.lin_texts.specs.Orders.{SaidPair, before_pairs, order_written, pair_of, pair_written, pairs_of, pairs_of_words, IsOrderBy, IsRefusedAs}
 use Rattle.lin_texts.specs.Saying.{AreOrdered, IsAsSaid}

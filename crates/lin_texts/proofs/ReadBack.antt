@@ -22,7 +22,7 @@ use Rattle.lin_events.specs.declared.calls.Reply.TheVariants.{Done, Value, Membe
 use Rattle.lin_names.specs.Names.{AgreesWith, Numbering}
 use Rattle.lin_names.specs.Spelled.{Spelled, truth, number, word, numbered, printed, spelled}
 use Rattle.lin_names.specs.lemmas.Printed.{printed_permutes}
-use Rattle.lin_orders.specs.declared.placed.Placed.{Placed}
+use Rattle.lin_order.specs.declared.placed.Placed.{Placed}
 use Rattle.lin_texts.specs.Integers.{integer_of, number_of}
 use Rattle.lin_texts.specs.Items.{is_word, item_text, item_written, spelled_text}
 use Rattle.lin_texts.specs.Parts.{Part, filled_from, is_filled, is_inside, divides, next, parts_from, separator}

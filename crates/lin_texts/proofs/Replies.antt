@@ -10,7 +10,7 @@ use Rattle.lin_events.specs.declared.calls.Reply.TheVariants.{Members}
 use Rattle.lin_events.specs.Items.{item_cmp}
 use Rattle.lin_names.specs.Names.{Numbering}
 use Rattle.lin_names.specs.Spelled.{Spelled, numbered}
-use Rattle.lin_orders.specs.declared.placed.Placed.{Placed}
+use Rattle.lin_order.specs.declared.placed.Placed.{Placed}
 use Rattle.lin_texts.specs.Integers.{number_of}
 use Rattle.lin_texts.specs.Orders.{SaidPair, SaidReply, is_braced, members, members_written, pair_at, pair_of, pair_written, reply_of, reply_written, said_pair}
 use Rattle.lin_texts.specs.Saying.{IsAsSaid}

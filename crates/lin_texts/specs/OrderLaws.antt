@@ -12,7 +12,7 @@ use Rattle.lin_events.specs.declared.calls.Reply.TheVariants.{Done, Value, Membe
 use Rattle.lin_events.specs.Items.{item_cmp}
 use Rattle.lin_names.specs.Names.{AgreesWith, IsSpelling, Numbering}
 use Rattle.lin_names.specs.Spelled.{numbered}
-use Rattle.lin_orders.specs.declared.placed.Placed.{Placed}
+use Rattle.lin_order.specs.declared.placed.Placed.{Placed}
 use Rattle.lin_texts.specs.Items.{is_word, item_text, item_written}
 use Rattle.lin_texts.specs.Orders.{order_of}
 use Rattle.lin_texts.specs.Texts.{order_text}

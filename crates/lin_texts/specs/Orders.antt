@@ -11,7 +11,7 @@ use Rattle.lin_events.specs.declared.calls.Reply.TheVariants.{Done, Value, Membe
 use Rattle.lin_events.specs.Items.{item_cmp}
 use Rattle.lin_names.specs.Names.{AgreesWith, Numbering}
 use Rattle.lin_names.specs.Spelled.{Spelled, numbered, spelled_cmp}
-use Rattle.lin_orders.specs.declared.placed.Placed.{Placed}
+use Rattle.lin_order.specs.declared.placed.Placed.{Placed}
 use Rattle.lin_texts.specs.Integers.{number_of}
 use Rattle.lin_texts.specs.Items.{item_written}
 use Rattle.lin_texts.specs.Parts.{Part, parts_from, filled_from}

@@ -1,7 +1,7 @@
 -- What is read of a text, beside what the text says: cited by the contracts of private functions alone.
 use Rattle.std.specs.Prelude.{◌≡◌, ℕ, List, Option, None, Some, Result, Ok}
 use Rattle.lin_names.specs.Names.{AgreesWith, Numbering}
-use Rattle.lin_orders.specs.declared.placed.Placed.{Placed}
+use Rattle.lin_order.specs.declared.placed.Placed.{Placed}
 use Rattle.lin_texts.specs.Orders.{SaidPair, order_said}
 
 -- nothing is said and read, or something, and what is read is that by each numbering that agrees with the names

@@ -6,7 +6,7 @@ use Rattle.lin_events.specs.declared.calls.Val.TheVariants.{Item as Held, Nil}
 use Rattle.lin_events.specs.declared.calls.Reply.{Reply}
 use Rattle.lin_events.specs.declared.calls.Reply.TheVariants.{Done, Value, Members}
 use Rattle.lin_names.specs.Spelled.{printed}
-use Rattle.lin_orders.specs.declared.placed.Placed.{Placed}
+use Rattle.lin_order.specs.declared.placed.Placed.{Placed}
 use Rattle.lin_texts.specs.Items.{item_text, spelled_text}
 
 module _ (names : List (List ℕ)) where

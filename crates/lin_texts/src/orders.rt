@@ -15,7 +15,7 @@ use crate::items::item_in;
 use crate::parts::{Division, next_filled, part_end};
 use lin_events::{IntSet, OutOfMemory, Reply, Val};
 use lin_names::{Names, Said, names_grow, said_order};
-use lin_orders::Placed;
+use lin_order::Placed;
 use std::alloc::Global;
 
 /// Whether an item is above the last one in print, if there is one.

@@ -8,7 +8,7 @@ use crate::items::put_item;
 use itoa::Buffer;
 use lin_events::{Item, OutOfMemory, Reply, Val};
 use lin_names::{Names, in_print, is_in_print};
-use lin_orders::Placed;
+use lin_order::Placed;
 use std::alloc::AllocError;
 
 /// Puts items last as they stand, with commas between them.

@@ -49,7 +49,12 @@ pub fn first_cause(status: ProcessStatus, event: &Event, kinds: &Kinds) -> Optio
     }
 }
 
-fn cause_at_invocation(status: ProcessStatus, call: &Call, key: Item, kinds: &Kinds) -> Option<Cause>
+fn cause_at_invocation(
+    status: ProcessStatus,
+    call: &Call,
+    key: Item,
+    kinds: &Kinds,
+) -> Option<Cause>
     ensures { (event : EventOf) → event.body ≡ Invoke call.now → event.key ≡ key → IsVerdict (functions_of (kind_of kinds.now)) status event result }
 {
     let object = Any {

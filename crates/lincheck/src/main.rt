@@ -3,9 +3,8 @@
 
 mod watched;
 
-pub use lin_line::{Line, line};
 use lin_program::end_without_words;
-pub use lin_program::{Message, System, exit_of, exit_of_refusal, run_words};
+pub use lin_program::{Line, Message, System, exit_of, exit_of_refusal, line, run_words};
 use std::fs::File;
 use std::io::{Printer, Stdin};
 use std::process::ExitCode;

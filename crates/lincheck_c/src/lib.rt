@@ -6,8 +6,7 @@ ghost use Rattle.lin_embedded.specs.Calls.{Ends, IsExplanationOf, IsReportOf};
 ghost use Rattle.lin_embedded.specs.Options.{AreOptions, NamesNone};
 ghost use Rattle.lin_embedded.specs.Sessions.{AsksAs, Begins, Calls, FeedsAs, Numbered, OrdersAs};
 
-use lin_embedded::Options;
-use lin_recorder::Handle;
+use lin_embedded::{Handle, Options};
 use std::alloc::Global;
 
 /// Tells whether the history of these bytes is linearizable. The number says how the call ends.

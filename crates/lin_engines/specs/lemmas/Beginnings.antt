@@ -3,7 +3,7 @@ use Rattle.std.proofs.Common.{◌≡◌, ◌≤◌, ◌<◌, ◌+◌, ◌∙◌,
 use Rattle.std.proofs.lemmas.List.{length-take, take-take}
 use Rattle.lin_events.specs.declared.events.Event.{Event}
 use Rattle.lin_objects.specs.declared.kinds.Kind.{Kind}
-use Rattle.lin_orders.specs.Linearizable.{IsDeadAt, IsLinearizableAs}
+use Rattle.lin_order.specs.Linearizable.{IsDeadAt, IsLinearizableAs}
 
 -- beginnings of lists that agree up to a place agree before it
 pub take_alike : {A : Type 0} (m n : ℕ) (xs ys : List A) → m ≤ n → take n xs ≡ take n ys → take m xs ≡ take m ys

@@ -8,7 +8,7 @@ use Rattle.lin_events.specs.declared.calls.Name.{Name}
 use Rattle.lin_events.specs.Operations.{IsEvent}
 use Rattle.lin_events.specs.WellFormed.{IsWellFormed}
 use Rattle.lin_events.specs.WellFormedLaws.{BeginningsAreWellFormed}
-use Rattle.lin_orders.specs.ConfigurationLaws.{with_event}
+use Rattle.lin_order.specs.ConfigurationLaws.{with_event}
 use Rattle.lin_frontier.specs.declared.pending.Open.{Open}
 use Rattle.lin_frontier.specs.Frontiers.{IsPending, IsNextEvent}
 

@@ -2,9 +2,9 @@
 use Rattle.std.specs.Prelude.{ℕ, List, Option, Some, None, take}
 use Rattle.lin_events.specs.declared.events.Event.{Event}
 use Rattle.lin_objects.specs.declared.kinds.Kind.{Kind}
-use Rattle.lin_possible.specs.After.{IsAfter}
-use Rattle.lin_possible.specs.declared.possible.Possible.{Possible}
-use Rattle.lin_window.specs.Operations.{IsLastQuiet}
+use Rattle.lin_possibilities.specs.After.{IsAfter}
+use Rattle.lin_possibilities.specs.declared.possible.Possible.{Possible}
+use Rattle.lin_tables.specs.WindowOperations.{IsLastQuiet}
 use Rattle.lin_explain.specs.Possible.{IsPassed, IsWasText}
 use Rattle.lin_explain.specs.declared.known.Quiet.{Quiet}
 

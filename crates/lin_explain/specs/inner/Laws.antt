@@ -6,14 +6,14 @@ use Rattle.lin_events.specs.declared.events.Event.{Event}
 use Rattle.lin_events.specs.Operations.{IsEvent}
 use Rattle.lin_events.specs.WellFormed.{IsWellFormed}
 use Rattle.lin_objects.specs.declared.kinds.Kind.{Kind}
-use Rattle.lin_orders.specs.Linearizable.{IsLinearizableAs}
-use Rattle.lin_orders.specs.Parts.{part}
-use Rattle.lin_outcomes.specs.Outcomes.{HasNotCrashed}
+use Rattle.lin_order.specs.Linearizable.{IsLinearizableAs}
+use Rattle.lin_order.specs.Parts.{part}
+use Rattle.lin_possibilities.specs.Outcomes.{HasNotCrashed}
 use Rattle.lin_answers.specs.Answers.{IsAnswer, kinds_in}
 use Rattle.lin_answers.specs.Edits.{Present}
 use Rattle.lin_answers.specs.declared.answers.Answer.TheVariants.{No}
 use Rattle.lin_answers.specs.declared.answers.Scope.{Scope}
-use Rattle.lin_window.specs.Operations.{IsFailing}
+use Rattle.lin_tables.specs.WindowOperations.{IsFailing}
 use Rattle.lin_explain.specs.Laws.{IsExplained, IsOf}
 use Rattle.lin_explain.specs.Own.{without_last}
 

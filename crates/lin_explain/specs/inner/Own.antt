@@ -2,9 +2,9 @@
 use Rattle.std.specs.Prelude.{◌≡◌, ℕ, List, Option}
 use Rattle.lin_events.specs.declared.items.Item.{Item}
 use Rattle.lin_events.specs.declared.events.Event.{Event}
-use Rattle.lin_orders.specs.Parts.{ArePositionsOf, part}
+use Rattle.lin_order.specs.Parts.{ArePositionsOf, part}
 use Rattle.lin_texts.specs.declared.place.Place.{Place}
-use Rattle.lin_window.specs.Tables.{Told}
+use Rattle.lin_tables.specs.WindowTables.{Told}
 use Rattle.lin_explain.specs.declared.own.Own.{Own}
 
 -- just the events of the key in the history, and where they stand

@@ -13,9 +13,9 @@ use Rattle.lin_events.specs.declared.events.Event.{Event}
 use Rattle.lin_events.specs.Alternation.{IsAlternating}
 use Rattle.lin_events.specs.Operations.{IsOperation, IsOpen}
 use Rattle.lin_events.specs.WellFormedLaws.{WellFormedIsAlternating}
-use Rattle.lin_orders.specs.declared.placed.Placed.{Placed}
-use Rattle.lin_orders.specs.Configurations.{EndsIn, IsAdded, IsConfiguration, IsPlacing, IsPlacedOn, none, more as further, IsOver}
-use Rattle.lin_orders.specs.ConfigurationLaws.{with_event, AfterInvocation, InvocationLaw, PlacingIsLegal}
+use Rattle.lin_order.specs.declared.placed.Placed.{Placed}
+use Rattle.lin_order.specs.Configurations.{EndsIn, IsAdded, IsConfiguration, IsPlacing, IsPlacedOn, none, more as further, IsOver}
+use Rattle.lin_order.specs.ConfigurationLaws.{with_event, AfterInvocation, InvocationLaw, PlacingIsLegal}
 use Rattle.lin_frontier.specs.declared.pending.Open.{Open}
 use Rattle.lin_frontier.specs.Frontiers.{IsFrontier, IsNextEvent}
 use Rattle.lin_frontier.specs.Nodes.{Spells}

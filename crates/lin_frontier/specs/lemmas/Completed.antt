@@ -13,10 +13,10 @@ use Rattle.lin_events.specs.declared.events.Body.{Body}
 use Rattle.lin_events.specs.declared.events.Body.TheVariants.{Invoke, Ok, Fail, Info}
 use Rattle.lin_events.specs.declared.events.Event.{Event}
 use Rattle.lin_events.specs.WellFormed.{IsWellFormed}
-use Rattle.lin_orders.specs.declared.placed.Placed.{Placed}
-use Rattle.lin_orders.specs.Linearizable.{IsLinearizableBy}
-use Rattle.lin_orders.specs.Configurations.{EndsIn, IsAdded, IsConfiguration, IsOver}
-use Rattle.lin_orders.specs.ConfigurationLaws.{with_event, AfterOk, AtStart, FailLaw, InfoLaw, LegalOrdersEnd, OkLaw}
+use Rattle.lin_order.specs.declared.placed.Placed.{Placed}
+use Rattle.lin_order.specs.Linearizable.{IsLinearizableBy}
+use Rattle.lin_order.specs.Configurations.{EndsIn, IsAdded, IsConfiguration, IsOver}
+use Rattle.lin_order.specs.ConfigurationLaws.{with_event, AfterOk, AtStart, FailLaw, InfoLaw, LegalOrdersEnd, OkLaw}
 use Rattle.lin_frontier.specs.Frontiers.{IsFrontier}
 use Rattle.lin_frontier.specs.Nodes.{root}
 use Rattle.lin_frontier.specs.Placing.{IsKeeping, without}

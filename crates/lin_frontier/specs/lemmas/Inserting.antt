@@ -6,7 +6,7 @@ use Rattle.std.proofs.lemmas.List.Kept.{AllPairs-cons, AllPairs-filter}
 use Rattle.std.proofs.lemmas.Bool.Decides.{Decides-eqb as Decides-nat_eq}
 use Rattle.std.proofs.lemmas.Bool.{cases_eq, cases_order, cond-true, cond-false, lt-ltb, le-ltb}
 use Rattle.lin_events.specs.declared.calls.Reply.{Reply}
-use Rattle.lin_orders.specs.Configurations.{IsRising, IsAdded}
+use Rattle.lin_order.specs.Configurations.{IsRising, IsAdded}
 use Rattle.lin_frontier.specs.Placing.{insert_pair, without, IsAbsent}
 
 -- an element stands first, or in the rest

@@ -1,7 +1,7 @@
 -- Steps that are turned into outcomes, from the last on; and operations that are tried in turn.
 use Rattle.std.proofs.Common.{◌≡◌, ℕ, zero, suc, ◌+◌, ◌<◌, ◌≤◌, List, [], ◌∷◌, ◌++◌, length, Contains, All, ◌⊎◌, inl, inr, refl, sym, ap, subst, ◌∙◌, arith, Some, get_or, take}
 use Rattle.std.proofs.lemmas.List.Elements.{All-pop, Contains-push, Contains-push_cases, Contains-append_left}
-use Rattle.lin_orders.specs.declared.placed.Placed.{Placed}
+use Rattle.lin_order.specs.declared.placed.Placed.{Placed}
 use Rattle.lin_frontier.specs.Placing.{IsTried}
 
 -- of the values that P holds of, `rest` are still to be turned into outcomes

@@ -9,8 +9,8 @@ use Rattle.lin_events.specs.Operations.{IsOk, IsOpen}
 use Rattle.lin_objects.specs.declared.kinds.Kind.TheVariants.{Mutex}
 use Rattle.lin_objects.specs.declared.states.State.TheVariants.{Held}
 use Rattle.lin_objects.specs.Steps.{Step, start}
-use Rattle.lin_orders.specs.declared.placed.Placed.{Placed}
-use Rattle.lin_orders.specs.Configurations.{EndsIn}
+use Rattle.lin_order.specs.declared.placed.Placed.{Placed}
+use Rattle.lin_order.specs.Configurations.{EndsIn}
 use Rattle.lin_locks.specs.declared.sides.Debt.{Debt}
 use Rattle.lin_locks.specs.inner.Known.{Part}
 use Rattle.lin_locks.specs.inner.Debts.{lock_call}

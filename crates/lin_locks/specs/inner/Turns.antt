@@ -9,8 +9,8 @@ use Rattle.lin_events.specs.declared.calls.Reply.TheVariants.{Done}
 use Rattle.lin_events.specs.Operations.{IsOpen}
 use Rattle.lin_events.specs.WellFormed.{IsWellFormed}
 use Rattle.lin_objects.specs.declared.kinds.Kind.TheVariants.{Mutex}
-use Rattle.lin_orders.specs.Linearizable.{IsLinearizableAs}
-use Rattle.lin_orders.specs.ConfigurationLaws.{with_event}
+use Rattle.lin_order.specs.Linearizable.{IsLinearizableAs}
+use Rattle.lin_order.specs.ConfigurationLaws.{with_event}
 use Rattle.lin_locks.specs.declared.latest.Running.{Running}
 use Rattle.lin_locks.specs.inner.Fillings.{AreFilled, HavePlaces}
 use Rattle.lin_locks.specs.inner.Known.{Known}

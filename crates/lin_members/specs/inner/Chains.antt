@@ -1,6 +1,6 @@
 -- Rounds in flat memory: each operation has a link to the one before it in its round, and each round is known by the number of its last one.
 use Rattle.std.specs.Prelude.{ℕ, List, [], ◌∷◌}
-use Rattle.lin_orders.specs.declared.placed.Placed.{Placed}
+use Rattle.lin_order.specs.declared.placed.Placed.{Placed}
 use Rattle.lin_frontier.specs.Nodes.{Spells}
 use Rattle.lin_members.specs.declared.chains.Chains.{Chains}
 

@@ -6,8 +6,8 @@ use Rattle.lin_events.specs.declared.calls.Call.{Call}
 use Rattle.lin_events.specs.declared.calls.Reply.{Reply}
 use Rattle.lin_events.specs.declared.events.Event.{Event}
 use Rattle.lin_lists.specs.lemmas.Lists.{get_inside}
-use Rattle.lin_orders.specs.declared.placed.Placed.{Placed}
-use Rattle.lin_orders.specs.Linearizable.{Runs}
+use Rattle.lin_order.specs.declared.placed.Placed.{Placed}
+use Rattle.lin_order.specs.Linearizable.{Runs}
 use Rattle.lin_members.specs.Members.{Member}
 use Rattle.lin_members.specs.RoundLaws.{IsOfferFrom}
 use Rattle.lin_members.specs.Rounds.{ahead, begin_round, place, put, puts, IsTrailOf, RunsBy, SpellsRounds}

@@ -9,8 +9,8 @@ use Rattle.lin_events.specs.Alternation.{IsAlternating}
 use Rattle.lin_events.specs.Operations.{IsCrashed, IsOpen, IsOperation}
 use Rattle.lin_events.specs.WellFormedLaws.{EndsAreUnique}
 use Rattle.lin_events.specs.lemmas.OneMore.{one_call, one_caller, one_open}
-use Rattle.lin_orders.specs.declared.placed.Placed.{Placed}
-use Rattle.lin_orders.specs.Configurations.{IsAdded, IsPlacing}
+use Rattle.lin_order.specs.declared.placed.Placed.{Placed}
+use Rattle.lin_order.specs.Configurations.{IsAdded, IsPlacing}
 use Rattle.lin_frontier.specs.declared.pending.Open.{Open}
 use Rattle.lin_members.specs.Covers.{HasCrashed}
 use Rattle.lin_frontier.specs.Frontiers.{IsPending}

@@ -4,7 +4,7 @@ use Rattle.std.proofs.lemmas.List.Elements.{Contains-get_or, Contains-append_rig
 use Rattle.std.proofs.lemmas.List.Kept.{AllPairs-cons}
 use Rattle.std.proofs.lemmas.Bool.{cases_eq}
 use Rattle.lin_events.specs.declared.calls.Reply.{Reply}
-use Rattle.lin_orders.specs.Configurations.{IsRising, IsAdded}
+use Rattle.lin_order.specs.Configurations.{IsRising, IsAdded}
 use Rattle.lin_frontier.specs.Placing.{insert_pair}
 use Rattle.lin_frontier.specs.lemmas.Inserting.{first_or_rest, insert_added}
 

@@ -14,7 +14,7 @@ use Rattle.lin_events.specs.WellFormed.{Completes}
 use Rattle.lin_events.specs.WellFormedLaws.{EndsAreUnique, WellFormedIsAlternating}
 use Rattle.lin_lists.specs.lemmas.Lists.{get_last}
 use Rattle.lin_events.specs.lemmas.OneMore.{alternates_before, completes, end_cases, end_inside, end_kept, one_caller, one_open, open_before, open_kept, open_other, operation_before, operation_kept}
-use Rattle.lin_orders.specs.ConfigurationLaws.{with_event}
+use Rattle.lin_order.specs.ConfigurationLaws.{with_event}
 use Rattle.lin_members.specs.Covers.{HasCrashed}
 use Rattle.lin_members.specs.Members.{IsWatching}
 use Rattle.lin_members.specs.MemberLaws.{CrashedLaw}

@@ -4,7 +4,7 @@ use Rattle.std.proofs.lemmas.List.Elements.{Contains-append_left, Contains-appen
 use Rattle.lin_events.specs.declared.calls.Call.{Call}
 use Rattle.lin_events.specs.declared.calls.Reply.{Reply}
 use Rattle.lin_events.specs.declared.events.Event.{Event}
-use Rattle.lin_orders.specs.Configurations.{IsRising}
+use Rattle.lin_order.specs.Configurations.{IsRising}
 use Rattle.lin_members.specs.Covers.{HasCrashed}
 use Rattle.lin_members.specs.Members.{Member, IsOnOffer, IsComplete, Leads, LeadsToCover, Dominates}
 use Rattle.lin_members.specs.MemberLaws.{DominationLaw, DroppingLaw, DropOneLaw, TransitiveLaw}

@@ -11,8 +11,8 @@ use Rattle.lin_events.specs.declared.events.Event.{Event}
 use Rattle.lin_events.specs.Alternation.{IsAlternating}
 use Rattle.lin_events.specs.Operations.{IsOpen, IsOperation}
 use Rattle.lin_events.specs.lemmas.OneMore.{one_call, one_open}
-use Rattle.lin_orders.specs.declared.placed.Placed.{Placed}
-use Rattle.lin_orders.specs.Configurations.{IsAdded, IsPlacing, IsPlacedOn, IsRising, none, more as further}
+use Rattle.lin_order.specs.declared.placed.Placed.{Placed}
+use Rattle.lin_order.specs.Configurations.{IsAdded, IsPlacing, IsPlacedOn, IsRising, none, more as further}
 use Rattle.lin_members.specs.Covers.{HasCrashed}
 use Rattle.lin_members.specs.Exchanges.{AreAlike, Exchange, IsExchanged}
 use Rattle.lin_members.specs.Members.{Meets, Member, IsCovered, IsOffered, IsReady, IsUpdate, LeadsToCover, Way, here, more}

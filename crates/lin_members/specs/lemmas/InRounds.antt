@@ -1,6 +1,6 @@
 -- The rounds of a node as what comes of its entries.
 use Rattle.std.proofs.Common.{◌≡◌, ℕ, zero, List, [], ◌∷◌, ◌++◌, refl, sym, ap, ◌∙◌, Option, Some, None}
-use Rattle.lin_orders.specs.declared.placed.Placed.{Placed}
+use Rattle.lin_order.specs.declared.placed.Placed.{Placed}
 use Rattle.lin_frontier.specs.Nodes.{Spells, root, node}
 use Rattle.lin_members.specs.Rounds.{begin_round, place, SpellsRounds, root as one_round, begins, puts}
 use Rattle.lin_members.specs.Searching.{in_rounds}

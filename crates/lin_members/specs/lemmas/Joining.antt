@@ -6,9 +6,9 @@ use Rattle.std.proofs.lemmas.List.Kept.{AllPairs-cons}
 use Rattle.lin_events.specs.declared.calls.Call.{Call}
 use Rattle.lin_events.specs.declared.calls.Reply.{Reply}
 use Rattle.lin_events.specs.declared.events.Event.{Event}
-use Rattle.lin_orders.specs.declared.placed.Placed.{Placed}
-use Rattle.lin_orders.specs.Linearizable.{Runs}
-use Rattle.lin_orders.specs.Orders.{IsCall}
+use Rattle.lin_order.specs.declared.placed.Placed.{Placed}
+use Rattle.lin_order.specs.Linearizable.{Runs}
+use Rattle.lin_order.specs.Orders.{IsCall}
 use Rattle.lin_members.specs.Rounds.{joined, put, RunsBy}
 use Rattle.lin_members.specs.lemmas.Choosing.{head_pairs, nothing_in, tail_pairs}
 use Rattle.lin_frontier.specs.lemmas.Inserting.{first_or_rest}

@@ -9,7 +9,7 @@ use Rattle.lin_events.specs.declared.calls.Reply.{Reply}
 use Rattle.lin_events.specs.declared.events.Event.{Event}
 use Rattle.lin_events.specs.Alternation.{IsAlternating}
 use Rattle.lin_events.specs.WellFormedLaws.{EndsAreUnique}
-use Rattle.lin_orders.specs.Configurations.{IsRising}
+use Rattle.lin_order.specs.Configurations.{IsRising}
 use Rattle.lin_members.specs.declared.members.Path.{Path}
 use Rattle.lin_frontier.specs.declared.pending.Open.{Open}
 use Rattle.lin_members.specs.Covers.{HasCrashed}

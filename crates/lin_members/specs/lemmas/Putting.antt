@@ -9,10 +9,10 @@ use Rattle.lin_events.specs.Operations.{IsFailed, IsOk, IsOpen, IsOperation}
 use Rattle.lin_lists.specs.lemmas.Lists.{get_left, get_cases, get_inside}
 use Rattle.lin_events.specs.lemmas.OneMore.{one_caller}
 use Rattle.lin_objects.specs.Observing.{IsObserving}
-use Rattle.lin_orders.specs.declared.placed.Placed.{Placed}
-use Rattle.lin_orders.specs.Orders.{IsBefore, IsCall, IsOrder, Places}
-use Rattle.lin_orders.specs.Configurations.{EndsIn, IsAdded, IsPlacedBy, IsPlacing}
-use Rattle.lin_orders.specs.ConfigurationLaws.{PlacingIsLegal}
+use Rattle.lin_order.specs.declared.placed.Placed.{Placed}
+use Rattle.lin_order.specs.Orders.{IsBefore, IsCall, IsOrder, Places}
+use Rattle.lin_order.specs.Configurations.{EndsIn, IsAdded, IsPlacedBy, IsPlacing}
+use Rattle.lin_order.specs.ConfigurationLaws.{PlacingIsLegal}
 use Rattle.lin_members.specs.Members.{IsGiven}
 use Rattle.lin_members.specs.Rounds.{joined, put, begin_round, IsOfferedIn, IsTrail}
 use Rattle.lin_members.specs.lemmas.Choosing.{all_from, nothing_in}

@@ -11,8 +11,8 @@ use Rattle.lin_events.specs.Operations.{IsOpen}
 use Rattle.lin_events.specs.WellFormed.{Completes}
 use Rattle.lin_events.specs.WellFormedLaws.{EndsAreUnique}
 use Rattle.lin_events.specs.lemmas.OneMore.{alternates_before}
-use Rattle.lin_orders.specs.Configurations.{IsAdded, IsRising}
-use Rattle.lin_orders.specs.ConfigurationLaws.{with_event, AfterOk}
+use Rattle.lin_order.specs.Configurations.{IsAdded, IsRising}
+use Rattle.lin_order.specs.ConfigurationLaws.{with_event, AfterOk}
 use Rattle.lin_members.specs.Covers.{HasCrashed}
 use Rattle.lin_members.specs.Exchanges.{Exchange, IsExchanged}
 use Rattle.lin_members.specs.Members.{Meets, Member, IsUpdate, IsOffered, IsOnOffer, IsReady, WayOf, more, LeadsToCover, LeadsToMember, IsComplete, IsCovered, DominatesAt}

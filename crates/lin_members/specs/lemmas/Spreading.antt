@@ -4,7 +4,7 @@ use Rattle.std.proofs.lemmas.Bool.{cases_eq}
 use Rattle.lin_events.specs.declared.calls.Call.{Call}
 use Rattle.lin_events.specs.declared.calls.Reply.{Reply}
 use Rattle.lin_events.specs.declared.events.Event.{Event}
-use Rattle.lin_orders.specs.Configurations.{IsAdded, IsRising}
+use Rattle.lin_order.specs.Configurations.{IsAdded, IsRising}
 use Rattle.lin_members.specs.Covers.{HasCrashed}
 use Rattle.lin_members.specs.Members.{Meets, Member, IsOnOffer, Way, here, more, IsOffered, IsReady, LeadsToCover, DominatesAt}
 use Rattle.lin_members.specs.MemberLaws.{IsSpread, SpreadingLaw}

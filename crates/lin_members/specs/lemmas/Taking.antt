@@ -9,8 +9,8 @@ use Rattle.lin_events.specs.declared.events.Event.{Event}
 use Rattle.lin_events.specs.declared.events.Body.TheVariants.{Ok}
 use Rattle.lin_events.specs.Alternation.{IsAlternating}
 use Rattle.lin_events.specs.Operations.{IsOpen}
-use Rattle.lin_orders.specs.Configurations.{IsAdded}
-use Rattle.lin_orders.specs.ConfigurationLaws.{with_event}
+use Rattle.lin_order.specs.Configurations.{IsAdded}
+use Rattle.lin_order.specs.ConfigurationLaws.{with_event}
 use Rattle.lin_members.specs.Exchanges.{Exchange, IsExchanged}
 use Rattle.lin_frontier.specs.Placing.{without}
 use Rattle.lin_members.specs.Members.{Meets, Member, IsUpdate, Way, here, more, IsOffered, IsOnOffer, WayOf, LeadsToCover, DominatesAt}

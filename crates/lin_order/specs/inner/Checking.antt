@@ -10,7 +10,7 @@ use Rattle.lin_events.specs.Operations.{IsEvent, IsOpen, IsOperation}
 use Rattle.lin_objects.specs.declared.kinds.Kind.{Kind}
 use Rattle.lin_objects.specs.declared.states.State.{State}
 use Rattle.lin_objects.specs.Steps.{Step, start}
-use Rattle.lin_orders.specs.Configurations.{IsAdded}
+use Rattle.lin_order.specs.Configurations.{IsAdded}
 use Rattle.lin_order.specs.Refutations.{Config, IsSet, AreRising, IsClosed, IsLeft, HoldsLeft}
 
 -- an operation that is open begins at the position

@@ -3,9 +3,9 @@ use Rattle.std.specs.Prelude.{◌≡◌, ◌≤◌, ◌<◌, ◌-◌, ◌⊎◌,
 use Rattle.lin_events.specs.declared.items.Item.{Item}
 use Rattle.lin_events.specs.declared.events.Event.{Event}
 use Rattle.lin_objects.specs.declared.kinds.Kind.{Kind}
-use Rattle.lin_orders.specs.Linearizable.{IsLegalOrder, IsLegalOrderFor, IsLinearizableFor}
-use Rattle.lin_orders.specs.declared.placed.Placed.{Placed}
-use Rattle.lin_orders.specs.Orders.{is_of_key}
+use Rattle.lin_order.specs.Linearizable.{IsLegalOrder, IsLegalOrderFor, IsLinearizableFor}
+use Rattle.lin_order.specs.declared.placed.Placed.{Placed}
+use Rattle.lin_order.specs.Orders.{is_of_key}
 use Rattle.lin_engines.specs.declared.ends.End.TheVariants.{Alive, Dead, Over}
 use Rattle.lin_chain.specs.Work.{Mark}
 use Rattle.lin_answers.specs.declared.answers.Scope.{Scope}

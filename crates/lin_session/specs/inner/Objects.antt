@@ -2,8 +2,8 @@
 use Rattle.std.specs.Prelude.{Option, None, ◌+◌, slice_index, ◌≡◌, ◌<◌, ℕ, List, Some}
 use Rattle.lin_events.specs.declared.items.Item.{Item}
 use Rattle.lin_events.specs.declared.events.Event.{Event}
-use Rattle.lin_orders.specs.Parts.{renamed}
-use Rattle.lin_orders.specs.declared.placed.Placed.{Placed}
+use Rattle.lin_order.specs.Parts.{renamed}
+use Rattle.lin_order.specs.declared.placed.Placed.{Placed}
 use Rattle.lin_engines.specs.declared.ends.End.{End}
 use Rattle.lin_engines.specs.declared.ends.End.TheVariants.{Alive, Dead, Over}
 use Rattle.lin_chain.specs.Chains.{IsFor, IsRight, kind_in, mark_in}

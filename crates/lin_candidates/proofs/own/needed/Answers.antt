@@ -1,4 +1,4 @@
-use Rattle.lin_orders.specs.lemmas.Assembling.{operation_inside}
+use Rattle.lin_order.specs.lemmas.Assembling.{operation_inside}
 use Rattle.lin_certificates.specs.Words.{Needs}
 use Rattle.lin_candidates.proofs.NoneOwn.{of_call}
 use Rattle.lin_candidates.proofs.own.needed.Goals as goal

@@ -1,4 +1,4 @@
-use Rattle.lin_orders.specs.lemmas.Assembling.{operation_inside}
+use Rattle.lin_order.specs.lemmas.Assembling.{operation_inside}
 use Rattle.lin_certificates.specs.Words.{IsOfAnswers}
 use Rattle.lin_certificates.specs.declared.words.Answers.TheVariants as Answered
 use Rattle.lin_candidates.proofs.NoneOwn.{of_call}

@@ -1,4 +1,4 @@
-use Rattle.lin_orders.specs.lemmas.Lists.{no_since}
+use Rattle.lin_order.specs.lemmas.Lists.{no_since}
 use Rattle.lin_certificates.proofs.operations.counts.Goals as goal
 
 pub returns-in_default : goal.returns-in_default

@@ -1,7 +1,7 @@
 use Rattle.std.proofs.Common.{ℕ, ◌<◌, subst}
 use Rattle.std.proofs.lemmas.Bool.Decides.{Decides-ltb}
-use Rattle.lin_orders.specs.lemmas.Lists.{no_since}
-use Rattle.lin_orders.specs.lemmas.OneEnd.{one_ok}
+use Rattle.lin_order.specs.lemmas.Lists.{no_since}
+use Rattle.lin_order.specs.lemmas.OneEnd.{one_ok}
 use Rattle.lin_certificates.proofs.operations.is_before.Goals as goal
 
 pub returns-in-Some : goal.returns-in-Some

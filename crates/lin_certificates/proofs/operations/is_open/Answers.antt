@@ -1,4 +1,4 @@
-use Rattle.lin_orders.specs.lemmas.Lists.{no_since}
+use Rattle.lin_order.specs.lemmas.Lists.{no_since}
 use Rattle.lin_certificates.proofs.operations.is_open.Goals as goal
 
 pub returns-in-Some : goal.returns-in-Some

@@ -1,6 +1,6 @@
 use Rattle.std.proofs.Common.{subst}
-use Rattle.lin_orders.specs.lemmas.Lists.{no_since}
-use Rattle.lin_orders.specs.lemmas.OneEnd.{one_call, one_ok}
+use Rattle.lin_order.specs.lemmas.Lists.{no_since}
+use Rattle.lin_order.specs.lemmas.OneEnd.{one_call, one_ok}
 use Rattle.lin_certificates.specs.Words.{IsOfAnswers}
 use Rattle.lin_certificates.proofs.operations.returned.Goals as goal
 

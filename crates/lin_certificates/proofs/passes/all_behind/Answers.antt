@@ -1,6 +1,6 @@
 use Rattle.std.proofs.Common.{arith}
-use Rattle.lin_orders.specs.lemmas.Lists.{yes_since}
-use Rattle.lin_orders.specs.Orders.{IsBefore}
+use Rattle.lin_order.specs.lemmas.Lists.{yes_since}
+use Rattle.lin_order.specs.Orders.{IsBefore}
 use Rattle.lin_certificates.specs.Words.{IsOfWhich}
 use Rattle.lin_certificates.proofs.Passing.{all_more, which_within}
 use Rattle.lin_certificates.proofs.passes.all_behind.Goals.{else-is_of_which-via-then-is_of_which+else-not-comes_before, else-is_of_which-via-else-is_of_which}

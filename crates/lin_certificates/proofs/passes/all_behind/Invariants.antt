@@ -1,5 +1,5 @@
 use Rattle.std.proofs.Common.{◌<◌, ℕ}
-use Rattle.lin_orders.specs.Orders.{IsBefore}
+use Rattle.lin_order.specs.Orders.{IsBefore}
 use Rattle.lin_certificates.specs.Words.{IsOfWhich}
 use Rattle.lin_certificates.proofs.passes.all_behind.Given as goal
 

@@ -1,6 +1,6 @@
 use Rattle.std.proofs.Common.{◌↔◌, ℕ, None, Some, IsTrue, not, sym, subst}
 use Rattle.lin_events.specs.declared.calls.Val.TheVariants.{Nil}
-use Rattle.lin_orders.specs.lemmas.Lists.{no_since}
+use Rattle.lin_order.specs.lemmas.Lists.{no_since}
 use Rattle.lin_certificates.specs.Certificates.{CanLeave, IsAhead, IsLeftAhead}
 use Rattle.lin_certificates.proofs.Deciding.{made, neither}
 use Rattle.lin_certificates.proofs.registers.is_ahead.Goals as goal

@@ -1,5 +1,5 @@
 use Rattle.std.proofs.Common.{arith}
-use Rattle.lin_orders.specs.lemmas.Lists.{no_since}
+use Rattle.lin_order.specs.lemmas.Lists.{no_since}
 use Rattle.lin_certificates.proofs.Deciding.{both, made}
 use Rattle.lin_certificates.proofs.Overwriting.{none_over}
 use Rattle.lin_certificates.proofs.registers.is_overwritten.Goals as goal

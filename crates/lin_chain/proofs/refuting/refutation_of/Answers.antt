@@ -2,12 +2,12 @@ use Rattle.std.proofs.Common.{◌≡◌, ◌+◌, Option, Result, Ok, Some, arit
 use Rattle.lin_events.specs.declared.lists.OutOfMemory.{OutOfMemory}
 use Rattle.lin_events.specs.Operations.{IsEvent}
 use Rattle.lin_objects.specs.Steps.{Step, start}
-use Rattle.lin_orders.specs.Parts.{events_at}
+use Rattle.lin_order.specs.Parts.{events_at}
 use Rattle.lin_order.specs.Refutations.{IsRefutation, sets_of}
 use Rattle.lin_order.specs.declared.refutations.Refutation.{Refutation}
-use Rattle.lin_orders.specs.Configurations.{IsOver}
-use Rattle.lin_orders.specs.Linearizable.{IsLinearizableAs}
-use Rattle.lin_witness.specs.lemmas.Picks.{event_there, length-events_at}
+use Rattle.lin_order.specs.Configurations.{IsOver}
+use Rattle.lin_order.specs.Linearizable.{IsLinearizableAs}
+use Rattle.lin_engines.specs.lemmas.Picks.{event_there, length-events_at}
 use Rattle.lin_chain.proofs.ExactSets.{AreAll, sets_refute, take_within}
 use Rattle.lin_chain.proofs.refuting.refutation_of.Goals as goal
 use Rattle.lin_chain.proofs.refuting.refutation_of.Goals.{In_ok-take_in}

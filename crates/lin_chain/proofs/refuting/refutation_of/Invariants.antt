@@ -1,5 +1,5 @@
 use Rattle.std.proofs.Common.{◌≡◌, ◌≤◌, ◌+◌}
-use Rattle.lin_orders.specs.Parts.{events_at}
+use Rattle.lin_order.specs.Parts.{events_at}
 use Rattle.lin_chain.specs.inner.Refuting.{AreBuilt}
 use Rattle.lin_chain.proofs.refuting.refutation_of.Given as goal
 

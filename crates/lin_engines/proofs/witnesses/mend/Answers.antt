@@ -1,9 +1,9 @@
 use Rattle.std.proofs.Common.{◌≡◌, ◌≤◌, List, length, subst, sym, arith}
 use Rattle.lin_events.specs.declared.events.Event.{Event}
-use Rattle.lin_orders.specs.Parts.{events_at}
+use Rattle.lin_order.specs.Parts.{events_at}
 use Rattle.lin_objects.specs.declared.any.Any.{Any}
-use Rattle.lin_witness.specs.declared.witness.Witness.{Witness}
-use Rattle.lin_witness.specs.Witnesses.{IsWitness}
+use Rattle.lin_engines.specs.declared.witness.Witness.{Witness}
+use Rattle.lin_engines.specs.Witnesses.{IsWitness}
 use Rattle.lin_engines.specs.declared.lane.Lane.{Lane}
 use Rattle.lin_engines.specs.Lanes.{IsStanding}
 use Rattle.lin_engines.specs.Witnessing.{IsWitnessLane, kind_of_witness, reach_of_witness}

@@ -1,8 +1,8 @@
 use Rattle.std.proofs.Common.{◌≡◌, ◌∙◌, List, take, sym, ap, subst, arith}
 use Rattle.std.proofs.lemmas.List.{take-take}
 use Rattle.lin_events.specs.WellFormed.{IsWellFormed}
-use Rattle.lin_orders.specs.Parts.{events_at}
-use Rattle.lin_witness.specs.lemmas.Picks.{events_take}
+use Rattle.lin_order.specs.Parts.{events_at}
+use Rattle.lin_engines.specs.lemmas.Picks.{events_take}
 use Rattle.lin_engines.proofs.witnesses.reach.Goals as goal
 
 pub mend-mended-requires-clause-right : goal.mend-mended-requires-clause-right

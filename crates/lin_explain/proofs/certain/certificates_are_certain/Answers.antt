@@ -1,6 +1,6 @@
 use Rattle.lin_answers.specs.Answers.{kinds_in}
 use Rattle.lin_objects.specs.Kinds.{functions_of}
-use Rattle.lin_orders.specs.Parts.{part}
+use Rattle.lin_order.specs.Parts.{part}
 use Rattle.lin_explain.proofs.certain.certificates_are_certain.Goals as goal
 
 -- the whole's legal order has one of the object, and that is one of the object's own events

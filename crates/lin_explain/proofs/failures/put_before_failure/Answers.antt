@@ -2,7 +2,7 @@ use Rattle.std.proofs.Common.{List, Option, option_map, subst}
 use Rattle.std.proofs.lemmas.Result.{IfOk-weaker}
 use Rattle.lin_events.specs.declared.calls.Reply.{Reply}
 use Rattle.lin_events.specs.declared.events.Event.{Event}
-use Rattle.lin_outcomes.specs.Outcomes.{Failing}
+use Rattle.lin_possibilities.specs.Outcomes.{Failing}
 use Rattle.lin_explain.specs.Own.{without_last}
 use Rattle.lin_explain.specs.Possible.{IsPossibleText}
 use Rattle.lin_explain.proofs.failures.put_before_failure.Goals as goal

@@ -1,7 +1,7 @@
 use Rattle.std.proofs.Common.{◌∙◌, ℕ, List, option_map, subst, sym}
 use Rattle.std.proofs.lemmas.Result.{IfOk-weaker}
 use Rattle.lin_events.specs.declared.events.Event.{Event}
-use Rattle.lin_window.specs.Operations.{IsFailing}
+use Rattle.lin_tables.specs.WindowOperations.{IsFailing}
 use Rattle.lin_explain.specs.Failures.{IsFailureText}
 use Rattle.lin_explain.proofs.failures.put_own.Goals as goal
 

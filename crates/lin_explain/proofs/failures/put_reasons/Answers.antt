@@ -1,5 +1,5 @@
 use Rattle.std.proofs.Common.{◌++◌, refl, subst}
-use Rattle.lin_window.specs.Tables.{told_of}
+use Rattle.lin_tables.specs.WindowTables.{told_of}
 use Rattle.lin_explain.specs.Since.{IsSinceText}
 use Rattle.lin_explain.proofs.Texts.{two_put}
 use Rattle.lin_explain.proofs.failures.put_reasons.Goals as goal

@@ -4,12 +4,12 @@ use Rattle.std.proofs.lemmas.Option.{IfSome_then}
 use Rattle.lin_events.specs.declared.events.Event.{Event}
 use Rattle.lin_events.specs.Meters.{ticked}
 use Rattle.lin_objects.specs.declared.kinds.Kind.{Kind}
-use Rattle.lin_outcomes.specs.Texts.{was_text}
-use Rattle.lin_possible.specs.After.{IsAfter, kind_in}
-use Rattle.lin_possible.specs.declared.possible.Possible.{Possible}
-use Rattle.lin_possible.specs.lemmas.Ticks.{ticked_rising}
-use Rattle.lin_window.specs.lemmas.Standing.{invoked_within}
-use Rattle.lin_words.specs.Values.{state_text}
+use Rattle.lin_possibilities.specs.Texts.{was_text}
+use Rattle.lin_possibilities.specs.After.{IsAfter, kind_in}
+use Rattle.lin_possibilities.specs.declared.possible.Possible.{Possible}
+use Rattle.lin_possibilities.specs.lemmas.Ticks.{ticked_rising}
+use Rattle.lin_tables.specs.lemmas.Standing.{invoked_within}
+use Rattle.lin_tables.specs.Values.{state_text}
 use Rattle.lin_explain.specs.inner.Known.{ArePossible}
 use Rattle.lin_explain.specs.inner.Laws.{IsLegalHistory}
 use Rattle.lin_explain.specs.Possible.{IsPassed, IsWasText}

@@ -1,6 +1,6 @@
 use Rattle.std.proofs.Common.{◌≡◌, ◌≤◌, ap, arith, length, subst, sym}
 use Rattle.std.proofs.lemmas.List.{length-take-le}
-use Rattle.lin_orders.specs.Parts.{part}
+use Rattle.lin_order.specs.Parts.{part}
 use Rattle.lin_explain.proofs.Passing.{part_within}
 use Rattle.lin_explain.proofs.own.own_from.Goals as goal
 

@@ -1,6 +1,6 @@
 use Rattle.std.proofs.Common.{◌≡◌, ◌≤◌, ◌+◌, ◌∙◌, arith, length, take, subst, sym, true≢false}
 use Rattle.lin_events.specs.Sameness.{Decides-item_eq}
-use Rattle.lin_orders.specs.Parts.{ArePositionsOf, part}
+use Rattle.lin_order.specs.Parts.{ArePositionsOf, part}
 use Rattle.lin_explain.specs.inner.Own.{IsOwn}
 use Rattle.lin_explain.proofs.Parting.{with_one, without_one}
 use Rattle.lin_explain.proofs.Passing.{own_fits}

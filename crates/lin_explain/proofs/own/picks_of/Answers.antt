@@ -1,6 +1,6 @@
 use Rattle.std.proofs.Common.{◌+◌, ◌∙◌, take, refl, subst, sym, true≢false}
 use Rattle.lin_events.specs.Sameness.{Decides-item_eq}
-use Rattle.lin_orders.specs.Parts.{ArePositionsOf, part}
+use Rattle.lin_order.specs.Parts.{ArePositionsOf, part}
 use Rattle.lin_explain.proofs.Parting.{with_one, without_one}
 use Rattle.lin_explain.proofs.own.picks_of.Goals as goal
 use Rattle.lin_explain.proofs.own.picks_of.Goals.{then-is_of+in_ok-push, else-is_of}

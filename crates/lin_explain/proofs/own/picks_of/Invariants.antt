@@ -1,5 +1,5 @@
 use Rattle.std.proofs.Common.{take}
-use Rattle.lin_orders.specs.Parts.{ArePositionsOf}
+use Rattle.lin_order.specs.Parts.{ArePositionsOf}
 use Rattle.lin_explain.proofs.own.picks_of.Given as goal
 
 abbrev pub invariant-loop-at : goal.invariant-loop-at

@@ -2,7 +2,7 @@ use Rattle.std.proofs.Common.{◌≡◌, ◌+◌, ◌*◌, ap, sym, ◌∙◌, a
 use Rattle.std.proofs.Math.Nat.{zero-mul}
 use Rattle.lin_events.specs.declared.meter.Meter.{Meter}
 use Rattle.lin_events.specs.Meters.{ticked}
-use Rattle.lin_possible.specs.lemmas.Ticks.{ticked_on}
+use Rattle.lin_possibilities.specs.lemmas.Ticks.{ticked_on}
 use Rattle.lin_explain.proofs.Passing.{next_pass}
 use Rattle.lin_explain.proofs.passes.tick_passes.Goals as goal
 

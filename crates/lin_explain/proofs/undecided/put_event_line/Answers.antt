@@ -1,6 +1,6 @@
 use Rattle.std.proofs.Common.{◌++◌, ◌∙◌, ap, codes, decimal, option_map}
-use Rattle.lin_words.specs.Operations.{event_text}
-use Rattle.lin_words.specs.Spots.{event_spot_text}
+use Rattle.lin_tables.specs.Operations.{event_text}
+use Rattle.lin_tables.specs.Spots.{event_spot_text}
 use Rattle.lin_explain.specs.Heads.{object_text}
 use Rattle.lin_explain.proofs.Texts.{five_put, four_put}
 use Rattle.lin_explain.proofs.undecided.put_event_line.Goals as goal

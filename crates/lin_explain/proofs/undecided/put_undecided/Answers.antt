@@ -4,7 +4,7 @@ use Rattle.lin_events.specs.declared.meter.Meter.{Meter}
 use Rattle.lin_events.specs.Meters.{ticked}
 use Rattle.lin_events.specs.lemmas.StatusLemmas.{one_event}
 use Rattle.lin_answers.specs.Answers.{kinds_in}
-use Rattle.lin_orders.specs.Parts.{part}
+use Rattle.lin_order.specs.Parts.{part}
 use Rattle.lin_explain.specs.Certain.{IsCertainText}
 use Rattle.lin_explain.specs.Undecided.{IsOpenText, event_line}
 use Rattle.lin_explain.specs.inner.Own.{stretch_of}

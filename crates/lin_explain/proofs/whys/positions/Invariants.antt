@@ -1,5 +1,5 @@
 use Rattle.std.proofs.Common.{◌≡◌, map, take}
-use Rattle.lin_window.specs.Tables.{position_in}
+use Rattle.lin_tables.specs.WindowTables.{position_in}
 use Rattle.lin_explain.proofs.whys.positions.Given as goal
 
 abbrev pub invariant-loop-at : goal.invariant-loop-at

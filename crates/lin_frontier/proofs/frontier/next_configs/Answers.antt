@@ -1,6 +1,6 @@
 use Rattle.std.proofs.Common.{sym, arith, []}
 use Rattle.std.proofs.lemmas.List.{append-nil}
-use Rattle.lin_orders.specs.ConfigurationLaws.{with_event}
+use Rattle.lin_order.specs.ConfigurationLaws.{with_event}
 use Rattle.lin_frontier.specs.lemmas.Counting.{tried_none}
 use Rattle.lin_frontier.specs.Sameness.{config_same}
 use Rattle.lin_frontier.specs.lemmas.AfterEvents.{frontier_invoked, over_invoked}

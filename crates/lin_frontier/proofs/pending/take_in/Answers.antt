@@ -1,7 +1,7 @@
 use Rattle.std.proofs.Common.{not, nat_eq, length, sym, ap, subst, refl, arith}
 use Rattle.std.proofs.lemmas.List.Filters.{length-filter_both}
 use Rattle.lin_events.specs.WellFormed.{Completes}
-use Rattle.lin_orders.specs.ConfigurationLaws.{with_event}
+use Rattle.lin_order.specs.ConfigurationLaws.{with_event}
 use Rattle.lin_frontier.specs.declared.pending.Open.{Open}
 use Rattle.lin_frontier.specs.Frontiers.{IsPending}
 use Rattle.lin_frontier.proofs.PendingAfter.{pending_invoked, pending_answered, pending_crashed}

@@ -1,5 +1,5 @@
-use Rattle.lin_orders.specs.lemmas.Lists.{yes_since, no_since}
-use Rattle.lin_orders.specs.lemmas.Each.{contains_here, at_end}
+use Rattle.lin_order.specs.lemmas.Lists.{yes_since, no_since}
+use Rattle.lin_order.specs.lemmas.Each.{contains_here, at_end}
 use Rattle.lin_order.proofs.Pairs.{absent_from, not_absent, IsOther}
 use Rattle.lin_order.proofs.ref_configs.is_absent.Goals as goal
 

@@ -1,7 +1,7 @@
 use Rattle.std.proofs.Common.{arith}
-use Rattle.lin_orders.specs.Configurations.{IsRising}
-use Rattle.lin_orders.specs.lemmas.Lists.{yes_since, no_since}
-use Rattle.lin_orders.specs.lemmas.Each.{at_end}
+use Rattle.lin_order.specs.Configurations.{IsRising}
+use Rattle.lin_order.specs.lemmas.Lists.{yes_since, no_since}
+use Rattle.lin_order.specs.lemmas.Each.{at_end}
 use Rattle.lin_order.proofs.Pairs.{rising_more, rising_not}
 use Rattle.lin_order.proofs.ref_configs.is_rising.Goals as goal
 

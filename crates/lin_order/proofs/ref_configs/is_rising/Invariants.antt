@@ -1,5 +1,5 @@
 use Rattle.std.proofs.Common.{length, ◌-◌, ◌≤◌, take}
-use Rattle.lin_orders.specs.Configurations.{IsRising}
+use Rattle.lin_order.specs.Configurations.{IsRising}
 use Rattle.lin_order.proofs.ref_configs.is_rising.Given as goal
 
 abbrev pub invariant-loop-i : goal.invariant-loop-i

@@ -1,7 +1,7 @@
 use Rattle.std.proofs.Common.{◌≡◌, ◌++◌, ◌∷◌, [], List, ℕ, sym, ◌∙◌, subst, ap, take, drop, length, length-drop, ◌-◌, arith}
 use Rattle.std.proofs.lemmas.List.{append_assoc, take_all}
 use Rattle.lin_events.specs.declared.calls.Reply.{Reply}
-use Rattle.lin_orders.specs.Configurations.{IsAdded}
+use Rattle.lin_order.specs.Configurations.{IsAdded}
 use Rattle.lin_order.proofs.ref_configs.with_pair.Goals as goal
 
 pub returns : goal.returns

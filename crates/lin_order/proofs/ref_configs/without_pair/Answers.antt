@@ -1,8 +1,8 @@
 use Rattle.std.proofs.Common.{◌≡◌, ◌++◌, ◌∷◌, [], ℕ, List, filter, sym, ◌∙◌, subst, ap}
 use Rattle.lin_events.specs.declared.calls.Reply.{Reply}
-use Rattle.lin_orders.specs.Configurations.{IsAdded}
+use Rattle.lin_order.specs.Configurations.{IsAdded}
 use Rattle.lin_lists.specs.lemmas.Elements.{begins_other}
-use Rattle.lin_orders.specs.lemmas.Each.{at_end}
+use Rattle.lin_order.specs.lemmas.Each.{at_end}
 use Rattle.lin_order.proofs.Pairs.{taken_out, kept_pair, dropped_pair}
 use Rattle.lin_order.proofs.ref_configs.without_pair.Goals as goal
 

@@ -1,7 +1,7 @@
 use Rattle.std.proofs.Common.{All, Vec, Global, sym, subst}
 use Rattle.lin_order.specs.Refutations.{Config, AreRising}
-use Rattle.lin_orders.specs.lemmas.Lists.{yes_since, no_since}
-use Rattle.lin_orders.specs.lemmas.Each.{all_more, not_all, at_end}
+use Rattle.lin_order.specs.lemmas.Lists.{yes_since, no_since}
+use Rattle.lin_order.specs.lemmas.Each.{all_more, not_all, at_end}
 use Rattle.lin_order.proofs.refutations.all_rise.Goals as goal
 
 pub loop-set-preserved : goal.loop-set-preserved

@@ -1,7 +1,7 @@
 use Rattle.std.proofs.Common.{◌↔◌, IsTrue, sym, subst, ap, ◌∙◌}
 use Rattle.lin_order.specs.Refutations.{IsRefutation, lists_of, sets_of}
 use Rattle.lin_order.specs.inner.Checking.{IsCarried, IsFramed}
-use Rattle.lin_orders.specs.lemmas.Lists.{no_since, if_ok_weaker}
+use Rattle.lin_order.specs.lemmas.Lists.{no_since, if_ok_weaker}
 use Rattle.lin_order.proofs.Sets.{is_framed, is_carried, refuted, rising_to, many_lists}
 use Rattle.lin_order.proofs.refutations.check_refutation.Goals as goal
 

@@ -4,7 +4,7 @@ use Rattle.lin_events.specs.declared.events.Event.{Event}
 use Rattle.lin_events.specs.Operations.{IsEvent}
 use Rattle.lin_order.specs.Refutations.{IsClosed}
 use Rattle.lin_order.specs.inner.Checking.{Follows}
-use Rattle.lin_orders.specs.lemmas.Lists.{no_since, if_ok_weaker}
+use Rattle.lin_order.specs.lemmas.Lists.{no_since, if_ok_weaker}
 use Rattle.lin_order.proofs.Carrying.{follows_iff, follows_not}
 use Rattle.lin_order.proofs.refutations.follows.Goals as goal
 

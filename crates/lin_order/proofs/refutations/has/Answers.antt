@@ -1,9 +1,9 @@
 use Rattle.std.proofs.Common.{◌≡◌, All, sym, subst, ◌∙◌, Contains, refl}
 use Rattle.std.proofs.lemmas.List.Elements.{All-contains}
 use Rattle.lin_order.specs.Refutations.{Config}
-use Rattle.lin_orders.specs.Sameness.{config_Decides}
-use Rattle.lin_orders.specs.lemmas.Lists.{yes_since, no_since}
-use Rattle.lin_orders.specs.lemmas.Each.{all_more, at_end, contains_here}
+use Rattle.lin_order.specs.Sameness.{config_Decides}
+use Rattle.lin_order.specs.lemmas.Lists.{yes_since, no_since}
+use Rattle.lin_order.specs.lemmas.Each.{all_more, at_end, contains_here}
 use Rattle.lin_order.proofs.refutations.has.Goals as goal
 
 pub returns-then-eq : goal.returns-then-eq

@@ -1,7 +1,7 @@
 use Rattle.std.proofs.Common.{◌↔◌, IsTrue, Contains, sym, subst}
 use Rattle.std.specs.Cmp.{decided}
 use Rattle.std.proofs.lemmas.Map.Views.{hash_set_contains_iff}
-use Rattle.lin_orders.specs.Sameness.{config_eq, config_Decides}
+use Rattle.lin_order.specs.Sameness.{config_eq, config_Decides}
 use Rattle.lin_order.proofs.refutations.holds.Goals as goal
 
 pub returns : goal.returns

@@ -1,8 +1,8 @@
 use Rattle.std.proofs.Common.{All}
 use Rattle.std.proofs.lemmas.List.Elements.{All-contains}
 use Rattle.lin_order.specs.inner.Checking.{HoldsLeftOf}
-use Rattle.lin_orders.specs.lemmas.Lists.{yes_since, no_since}
-use Rattle.lin_orders.specs.lemmas.Each.{all_more, at_end, contains_here}
+use Rattle.lin_order.specs.lemmas.Lists.{yes_since, no_since}
+use Rattle.lin_order.specs.lemmas.Each.{all_more, at_end, contains_here}
 use Rattle.lin_order.proofs.refutations.holds_all_left.Goals as goal
 
 pub returns-then-not-held : goal.returns-then-not-held

@@ -1,8 +1,8 @@
 use Rattle.std.proofs.Common.{◌≡◌, ◌↔◌, IsTrue, Contains, subst, sym, ◌∙◌, ℕ, List}
 use Rattle.lin_events.specs.declared.calls.Reply.{Reply}
-use Rattle.lin_orders.specs.Configurations.{IsAdded}
+use Rattle.lin_order.specs.Configurations.{IsAdded}
 use Rattle.lin_order.specs.Refutations.{Config}
-use Rattle.lin_orders.specs.lemmas.Lists.{yes_since}
+use Rattle.lin_order.specs.lemmas.Lists.{yes_since}
 use Rattle.lin_order.proofs.Carrying.{ok_left, fail_left, fail_none}
 use Rattle.lin_order.proofs.refutations.holds_left.Goals as goal
 

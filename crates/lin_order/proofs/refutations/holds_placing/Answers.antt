@@ -2,7 +2,7 @@ use Rattle.std.proofs.Common.{◌≡◌, ◌↔◌, IsTrue, refl, subst}
 use Rattle.std.proofs.lemmas.Option.{slice_get_read}
 use Rattle.lin_order.specs.Refutations.{Config}
 use Rattle.lin_order.specs.inner.Checking.{HoldsPlacing, HoldsSteps}
-use Rattle.lin_orders.specs.lemmas.Lists.{yes_since, if_ok_weaker}
+use Rattle.lin_order.specs.lemmas.Lists.{yes_since, if_ok_weaker}
 use Rattle.lin_order.proofs.Carrying.{placing_iff, no_placing}
 use Rattle.lin_order.proofs.refutations.holds_placing.Goals as goal
 

@@ -1,7 +1,7 @@
 use Rattle.std.proofs.Common.{All, get_or}
 use Rattle.lin_order.specs.inner.Checking.{HoldsPlacing}
-use Rattle.lin_orders.specs.lemmas.Lists.{yes_since, no_since}
-use Rattle.lin_orders.specs.lemmas.Each.{all_more, not_all, at_end}
+use Rattle.lin_order.specs.lemmas.Lists.{yes_since, no_since}
+use Rattle.lin_order.specs.lemmas.Each.{all_more, not_all, at_end}
 use Rattle.lin_order.proofs.Opening.{number_read}
 use Rattle.lin_order.proofs.refutations.holds_placings.Goals as goal
 

@@ -1,7 +1,7 @@
 use Rattle.std.proofs.Common.{inl, sym, ◌∙◌}
 use Rattle.lin_objects.specs.Steps.{Step}
 use Rattle.lin_order.specs.inner.Checking.{HoldsWith}
-use Rattle.lin_orders.specs.lemmas.Lists.{yes_since, no_since}
+use Rattle.lin_order.specs.lemmas.Lists.{yes_since, no_since}
 use Rattle.lin_order.proofs.Carrying.{taken_fewer, taken_not, taken_all}
 use Rattle.lin_order.proofs.Sets.{empty_if}
 use Rattle.lin_order.proofs.refutations.holds_steps.Goals as goal

@@ -1,7 +1,7 @@
 use Rattle.std.proofs.Common.{◌+◌, sym, subst, take, arith}
 use Rattle.lin_order.specs.inner.Checking.{AreOpen}
 use Rattle.lin_order.specs.Refutations.{lists_of}
-use Rattle.lin_orders.specs.lemmas.Lists.{yes_since, no_since}
+use Rattle.lin_order.specs.lemmas.Lists.{yes_since, no_since}
 use Rattle.lin_order.proofs.Opening.{none_open}
 use Rattle.lin_order.proofs.Sets.{turn_carried, turn_not, carried_all}
 use Rattle.lin_order.proofs.refutations.is_carried.Goals as goal

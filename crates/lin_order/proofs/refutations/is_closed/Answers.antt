@@ -1,9 +1,9 @@
 use Rattle.std.proofs.Common.{All, ◌<◌, length}
 use Rattle.lin_order.specs.Refutations.{Config}
 use Rattle.lin_order.specs.inner.Checking.{HoldsPlacing}
-use Rattle.lin_orders.specs.lemmas.Lists.{yes_since, no_since}
+use Rattle.lin_order.specs.lemmas.Lists.{yes_since, no_since}
 use Rattle.lin_lists.specs.lemmas.Elements.{all_of}
-use Rattle.lin_orders.specs.lemmas.Each.{all_more, at_end, contains_here}
+use Rattle.lin_order.specs.lemmas.Each.{all_more, at_end, contains_here}
 use Rattle.lin_order.proofs.Carrying.{closed_from, closed_to}
 use Rattle.lin_order.proofs.Opening.{open_inside}
 use Rattle.lin_order.proofs.refutations.is_closed.Goals as goal

@@ -1,7 +1,7 @@
 use Rattle.std.proofs.Common.{[], Contains, length, sym, subst, ap, ◌∙◌}
 use Rattle.std.proofs.lemmas.Bool.Decides.{Decides-eqb}
 use Rattle.lin_objects.specs.Steps.{start}
-use Rattle.lin_orders.specs.lemmas.Lists.{no_since}
+use Rattle.lin_order.specs.lemmas.Lists.{no_since}
 use Rattle.lin_order.proofs.Sets.{empty_if, first_read, framed_iff, not_ended}
 use Rattle.lin_order.proofs.refutations.is_framed.Goals as goal
 

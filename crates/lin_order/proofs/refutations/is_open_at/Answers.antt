@@ -2,7 +2,7 @@ use Rattle.std.proofs.Common.{◌∙◌, refl, ap, Some, take}
 use Rattle.std.proofs.lemmas.Option.{slice_get_read}
 use Rattle.lin_events.specs.declared.events.Event.{Event}
 use Rattle.lin_order.specs.inner.Checking.{IsOpenAt, IsReturning}
-use Rattle.lin_orders.specs.lemmas.Lists.{yes_since}
+use Rattle.lin_order.specs.lemmas.Lists.{yes_since}
 use Rattle.lin_order.proofs.Opening.{never_ended, ended_past, ended_open, ended_not, not_iff}
 use Rattle.lin_order.proofs.refutations.is_open_at.Goals as goal
 

@@ -4,9 +4,9 @@ use Rattle.std.specs.HashSet as bag
 use Rattle.std.proofs.lemmas.Map.Views.{hash_set_contains_iff}
 use Rattle.lin_order.specs.Refutations.{Config}
 use Rattle.lin_order.specs.inner.Checking.{AreSame}
-use Rattle.lin_orders.specs.Sameness.{config_eq, config_Decides}
-use Rattle.lin_orders.specs.lemmas.Lists.{take_more}
-use Rattle.lin_orders.specs.lemmas.Each.{at_end}
+use Rattle.lin_order.specs.Sameness.{config_eq, config_Decides}
+use Rattle.lin_order.specs.lemmas.Lists.{take_more}
+use Rattle.lin_order.specs.lemmas.Each.{at_end}
 use Rattle.lin_order.proofs.Carrying.{members_more}
 use Rattle.lin_order.proofs.refutations.members_of.Goals as goal
 

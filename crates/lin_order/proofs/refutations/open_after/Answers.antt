@@ -1,6 +1,6 @@
 use Rattle.std.proofs.Common.{◌+◌, ℕ, Vec, Global, ap, sym, subst, ◌∙◌, get_or, take, arith}
 use Rattle.lin_order.specs.inner.Checking.{AreOpen}
-use Rattle.lin_orders.specs.lemmas.Each.{contains_here, at_end}
+use Rattle.lin_order.specs.lemmas.Each.{contains_here, at_end}
 use Rattle.lin_order.proofs.Opening.{AreStillOpen, open_inside, open_newest, open_older, number_read, turn_kept, turn_dropped}
 use Rattle.lin_order.proofs.refutations.open_after.Goals as goal
 use Rattle.lin_order.proofs.refutations.open_after.Goals.{then-is_open_at+in_ok-push, else-is_open_at, then-is_open_at-2+in_ok-push-2, else-is_open_at-2}

@@ -4,8 +4,8 @@ use Rattle.lin_events.specs.declared.meter.Meter.{Meter}
 use Rattle.lin_events.specs.Meters.{ticked}
 use Rattle.lin_events.specs.WellFormed.{IsWellFormed}
 use Rattle.lin_objects.specs.declared.kinds.Kind.TheVariants.{Fifo}
-use Rattle.lin_orders.specs.Linearizable.{IsLinearizableAs}
-use Rattle.lin_orders.specs.lemmas.Lists.{take_more}
+use Rattle.lin_order.specs.Linearizable.{IsLinearizableAs}
+use Rattle.lin_order.specs.lemmas.Lists.{take_more}
 use Rattle.std.proofs.lemmas.List.{take_all}
 use Rattle.lin_queues.specs.Engines.{AreDebtsOf}
 use Rattle.lin_queues.specs.declared.failing.QueueFinding.TheVariants.{Fails}

@@ -1,7 +1,7 @@
 use Rattle.std.proofs.Common.{◌≡◌, ◌<◌, ℕ, List, Some, slice_get, length, Contains}
 use Rattle.lin_events.specs.declared.events.Event.{Event}
-use Rattle.lin_orders.specs.declared.placed.Placed.{Placed}
-use Rattle.lin_debts.specs.Debts.{IsWhole}
+use Rattle.lin_order.specs.declared.placed.Placed.{Placed}
+use Rattle.lin_queues.specs.Debts.{IsWhole}
 use Rattle.lin_queues.specs.declared.elements.Element.{Element}
 use Rattle.lin_queues.specs.declared.members.QueueMember.{QueueMember}
 use Rattle.lin_queues.specs.Gains.{AreGathered}

@@ -5,8 +5,8 @@ use Rattle.lin_events.specs.declared.calls.Name.{Name}
 use Rattle.lin_events.specs.declared.calls.Call.TheVariants.{Dequeue}
 use Rattle.lin_events.specs.declared.calls.Reply.TheVariants.{Value}
 use Rattle.lin_events.specs.declared.calls.Val.TheVariants.{Item as Held}
-use Rattle.lin_orders.specs.declared.placed.Placed.{Placed}
-use Rattle.lin_orders.specs.ConfigurationLaws.{with_event}
+use Rattle.lin_order.specs.declared.placed.Placed.{Placed}
+use Rattle.lin_order.specs.ConfigurationLaws.{with_event}
 use Rattle.lin_queues.specs.declared.elements.Element.{Element}
 use Rattle.lin_queues.specs.declared.members.QueueMember.{QueueMember}
 use Rattle.lin_queues.specs.Chains.{IsLinked}

@@ -1,5 +1,5 @@
 use Rattle.std.proofs.Common.{inl, refl, subst, take, ◌∙◌}
-use Rattle.lin_orders.specs.Parts.{part}
+use Rattle.lin_order.specs.Parts.{part}
 use Rattle.lin_order.specs.Refutations.{IsRefutation, sets_of}
 use Rattle.lin_session.specs.Refuting.{Refutes}
 use Rattle.lin_report.proofs.Refuted.{refuted_no}

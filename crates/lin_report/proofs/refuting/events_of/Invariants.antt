@@ -1,5 +1,5 @@
 use Rattle.std.proofs.Common.{◌≡◌, take}
-use Rattle.lin_orders.specs.Parts.{part}
+use Rattle.lin_order.specs.Parts.{part}
 use Rattle.lin_report.proofs.refuting.events_of.Given as goal
 
 abbrev pub invariant-loop-at : goal.invariant-loop-at

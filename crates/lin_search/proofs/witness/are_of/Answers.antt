@@ -4,7 +4,7 @@ use Rattle.std.proofs.lemmas.List.{take_all}
 use Rattle.std.proofs.lemmas.List.Elements.{All-push}
 use Rattle.lin_events.specs.declared.events.Event.{Event}
 use Rattle.lin_events.specs.Sameness.{item_same}
-use Rattle.lin_orders.specs.lemmas.Lists.{take_more}
+use Rattle.lin_order.specs.lemmas.Lists.{take_more}
 use Rattle.lin_search.proofs.witness.are_of.Goals as goal
 
 pub loop-event-preserved : goal.loop-event-preserved

@@ -1,7 +1,7 @@
 use Rattle.std.proofs.Common.{◌+◌, ap, arith, Ok, sym, subst}
 use Rattle.std.proofs.lemmas.List.{length-take-le, take-take}
 use Rattle.lin_objects.specs.declared.kinds.Kind.TheVariants.{Fifo}
-use Rattle.lin_orders.specs.Linearizable.{IsLinearizableAs}
+use Rattle.lin_order.specs.Linearizable.{IsLinearizableAs}
 use Rattle.lin_search.proofs.witness.indebted.Goals as goal
 
 pub returns-in-Fails-clause-inside : goal.returns-in-Fails-clause-inside

@@ -1,5 +1,5 @@
 use Rattle.std.proofs.Common.{sym, subst}
-use Rattle.lin_failures.specs.Conflicts.{IsRegister}
+use Rattle.lin_certificates.specs.Conflicts.{IsRegister}
 use Rattle.lin_search.proofs.witness.is_refuted_as.Goals as goal
 
 pub returns-in-Register-kind : goal.returns-in-Register-kind

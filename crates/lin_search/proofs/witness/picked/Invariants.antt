@@ -1,6 +1,6 @@
 use Rattle.std.proofs.Common.{◌≡◌, ◌≤◌, ◌+◌, take}
 use Rattle.lin_events.specs.Meters.{ticked}
-use Rattle.lin_orders.specs.Parts.{events_at}
+use Rattle.lin_order.specs.Parts.{events_at}
 use Rattle.lin_search.proofs.witness.picked.Given as goal
 
 abbrev pub invariant-loop-pick : goal.invariant-loop-pick

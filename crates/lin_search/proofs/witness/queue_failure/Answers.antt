@@ -1,5 +1,5 @@
 use Rattle.std.proofs.Common.{◌+◌, take}
-use Rattle.lin_ranks.specs.Ranks.{IsOvertakenAt}
+use Rattle.lin_queues.specs.Ranks.{IsOvertakenAt}
 use Rattle.lin_search.proofs.witness.queue_failure.Goals as goal
 
 pub returns-in-None-clause-refuted : goal.returns-in-None-clause-refuted

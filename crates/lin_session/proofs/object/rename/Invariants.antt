@@ -1,5 +1,5 @@
 use Rattle.std.proofs.Common.{◌≡◌, ◌++◌, take, drop}
-use Rattle.lin_orders.specs.Parts.{renamed}
+use Rattle.lin_order.specs.Parts.{renamed}
 use Rattle.lin_session.proofs.object.rename.Given as goal
 
 abbrev pub invariant-loop-placed : goal.invariant-loop-placed

@@ -1,11 +1,11 @@
 use Rattle.std.proofs.Common.{◌≡◌, ◌<◌, ◌≤◌, ◌-◌, ◌+◌, List, length, take, sym, ap, subst, ◌∙◌, arith}
 use Rattle.std.proofs.lemmas.List.{length-take, length-take-le, take-take}
-use Rattle.lin_orders.specs.Orders.{is_of_key}
+use Rattle.lin_order.specs.Orders.{is_of_key}
 use Rattle.lin_session.specs.inner.Objects.{marks_in}
 use Rattle.std.proofs.Common.{inl, inr, nat_lt}
 use Rattle.std.proofs.lemmas.Bool.{cases_lt}
 use Rattle.std.proofs.lemmas.List.{take_all}
-use Rattle.lin_orders.specs.Parts.{part}
+use Rattle.lin_order.specs.Parts.{part}
 use Rattle.lin_session.specs.Known.{count_before}
 use Rattle.lin_session.specs.Leaving.{IsTouched}
 use Rattle.lin_lists.specs.lemmas.Taken.{element_at}

@@ -3,7 +3,7 @@ use Rattle.std.specs.Prelude.{remove}
 use Rattle.lin_session.specs.Objects.{AreRight}
 use Rattle.lin_lists.specs.lemmas.Taken.{removed_last}
 use Rattle.std.proofs.Common.{◌≡◌, length}
-use Rattle.lin_orders.specs.Orders.{is_of_key}
+use Rattle.lin_order.specs.Orders.{is_of_key}
 use Rattle.lin_session.specs.inner.Objects.{marks_in}
 use Rattle.lin_session.specs.Known.{count_before}
 use Rattle.lin_session.specs.Leaving.{IsTouched}

@@ -2,7 +2,7 @@ use Rattle.std.proofs.Common.{Contains, sym, subst}
 use Rattle.lin_events.specs.Items.{item_cmp}
 use Rattle.lin_events.specs.lemmas.Rising.{compares_rising}
 use Rattle.lin_lists.specs.Sets.{IsRising}
-use Rattle.lin_orders.specs.lemmas.Lists.{no_since}
+use Rattle.lin_order.specs.lemmas.Lists.{no_since}
 use Rattle.lin_sets.proofs.Finding.{not_there}
 use Rattle.lin_sets.proofs.levels.has.Goals as goal
 

@@ -1,5 +1,5 @@
 use Rattle.std.proofs.Common.{subst, sym, take}
-use Rattle.lin_orders.specs.Linearizable.{IsLegalOrderAs}
+use Rattle.lin_order.specs.Linearizable.{IsLegalOrderAs}
 use Rattle.lin_engines.specs.Exacts.{kind_of_exact}
 use Rattle.lin_chain.specs.Chains.{IsBeside}
 use Rattle.lin_chain.proofs.Chaining.{alive_reached}

@@ -1,7 +1,7 @@
 use Rattle.std.proofs.Common.{◌≡◌, length, sym, subst, refl, Result, Ok, Err, OnOk, arith}
 use Rattle.lin_events.specs.declared.lists.OutOfMemory.{OutOfMemory}
-use Rattle.lin_orders.specs.Parts.{events_at}
-use Rattle.lin_witness.specs.lemmas.Picks.{length-events_at}
+use Rattle.lin_order.specs.Parts.{events_at}
+use Rattle.lin_engines.specs.lemmas.Picks.{length-events_at}
 use Rattle.lin_chain.specs.declared.beside.Beside.TheVariants.{Exact}
 use Rattle.lin_chain.proofs.Chaining.{IsToldDecided, exact_decides, exact_told}
 use Rattle.lin_chain.proofs.chain.Chain.extend.Goals as goal

@@ -1,9 +1,9 @@
 use Rattle.std.proofs.Common.{◌≡◌, ◌<◌, ◌≤◌, ◌∙◌, Some, IfSome, true, false, nat_lt, length, sym, subst, arith, inl, inr, ◌⊎◌}
 use Rattle.std.proofs.lemmas.Bool.{cases_lt}
-use Rattle.lin_orders.specs.Parts.{events_at}
+use Rattle.lin_order.specs.Parts.{events_at}
 use Rattle.lin_engines.specs.Ends.{IsEndOf}
 use Rattle.lin_engines.specs.Exacts.{HasExact}
-use Rattle.lin_witness.specs.lemmas.Picks.{length-events_at}
+use Rattle.lin_engines.specs.lemmas.Picks.{length-events_at}
 use Rattle.lin_chain.specs.Chains.{IsKept, kind_in}
 use Rattle.lin_chain.proofs.Chaining.{kept_same, kept_with_frontier}
 use Rattle.lin_chain.proofs.chain.Chain.finish.Goals as goal

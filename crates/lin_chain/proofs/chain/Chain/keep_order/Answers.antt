@@ -1,8 +1,8 @@
 use Rattle.std.proofs.Common.{◌≡◌, ◌≤◌, length, subst, sym, arith}
 use Rattle.std.proofs.lemmas.List.{take_all}
-use Rattle.lin_orders.specs.Linearizable.{IsLegalOrderAs}
-use Rattle.lin_orders.specs.Parts.{events_at}
-use Rattle.lin_witness.specs.lemmas.Picks.{length-events_at}
+use Rattle.lin_order.specs.Linearizable.{IsLegalOrderAs}
+use Rattle.lin_order.specs.Parts.{events_at}
+use Rattle.lin_engines.specs.lemmas.Picks.{length-events_at}
 use Rattle.lin_chain.specs.Chains.{kind_in}
 use Rattle.lin_chain.proofs.Chaining.{beside_within, right_with_found}
 use Rattle.lin_chain.proofs.chain.Chain.keep_order.Goals as goal

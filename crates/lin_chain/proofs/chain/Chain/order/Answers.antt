@@ -1,7 +1,7 @@
 use Rattle.std.proofs.Common.{◌≡◌, ◌∙◌, Option, None, Some, IfSome, IsSome, List, refl, ap, sym, subst, take}
 use Rattle.lin_events.specs.declared.events.Event.{Event}
 use Rattle.lin_objects.specs.declared.kinds.Kind.{Kind}
-use Rattle.lin_orders.specs.Linearizable.{IsLegalOrderAs}
+use Rattle.lin_order.specs.Linearizable.{IsLegalOrderAs}
 use Rattle.lin_chain.specs.Chains.{IsBeside, IsFound, kind_in, told_beside, told_by_found}
 use Rattle.lin_chain.proofs.Chaining.{alive_by_frontier, alive_reached}
 use Rattle.lin_chain.proofs.chain.Chain.order.Goals as goal

@@ -1,10 +1,10 @@
 use Rattle.std.proofs.Common.{◌≡◌, ◌≤◌, ◌<◌, ◌∙◌, Ok, ℕ, length, ap, sym, subst, take, arith}
 use Rattle.lin_objects.specs.Steps.{Step, start}
-use Rattle.lin_orders.specs.Parts.{events_at}
-use Rattle.lin_orders.specs.Configurations.{IsOver}
-use Rattle.lin_orders.specs.Linearizable.{IsDeadAt}
+use Rattle.lin_order.specs.Parts.{events_at}
+use Rattle.lin_order.specs.Configurations.{IsOver}
+use Rattle.lin_order.specs.Linearizable.{IsDeadAt}
 use Rattle.lin_engines.specs.Ends.{IsEndOf}
-use Rattle.lin_witness.specs.lemmas.Picks.{length-events_at}
+use Rattle.lin_engines.specs.lemmas.Picks.{length-events_at}
 use Rattle.lin_chain.specs.Chains.{kind_in}
 use Rattle.lin_chain.proofs.Chaining.{dead_within}
 use Rattle.lin_chain.proofs.chain.Chain.refute.Goals as goal

@@ -1,6 +1,6 @@
 use Rattle.std.proofs.Common.{◌≤◌, length, arith}
-use Rattle.lin_orders.specs.Parts.{events_at}
-use Rattle.lin_witness.specs.lemmas.Picks.{length-events_at}
+use Rattle.lin_order.specs.Parts.{events_at}
+use Rattle.lin_engines.specs.lemmas.Picks.{length-events_at}
 use Rattle.lin_chain.proofs.Chaining.{kept_searched, kept_with_others}
 use Rattle.lin_chain.proofs.chain.Chain.search.Goals as goal
 

@@ -1,7 +1,7 @@
 use Rattle.std.proofs.Common.{◌≡◌, ◌≤◌, ◌∙◌, length, ap, sym, subst}
-use Rattle.lin_orders.specs.Parts.{events_at}
+use Rattle.lin_order.specs.Parts.{events_at}
 use Rattle.lin_engines.specs.Exacts.{HasExact}
-use Rattle.lin_witness.specs.lemmas.Picks.{length-events_at}
+use Rattle.lin_engines.specs.lemmas.Picks.{length-events_at}
 use Rattle.lin_chain.specs.Chains.{told_in}
 use Rattle.lin_chain.specs.declared.chain.Chain.{Chain}
 use Rattle.lin_chain.proofs.chain.Chain.settle.Goals as goal

@@ -1,7 +1,7 @@
 use Rattle.std.proofs.Common.{◌≡◌, ◌≤◌, ◌<◌, ◌+◌, ◌∙◌, Ok, true, length, take, sym, ap, subst, arith}
-use Rattle.lin_orders.specs.Linearizable.{IsLinearizableAs}
-use Rattle.lin_orders.specs.Parts.{events_at}
-use Rattle.lin_witness.specs.lemmas.Picks.{length-events_at}
+use Rattle.lin_order.specs.Linearizable.{IsLinearizableAs}
+use Rattle.lin_order.specs.Parts.{events_at}
+use Rattle.lin_engines.specs.lemmas.Picks.{length-events_at}
 use Rattle.lin_chain.specs.declared.chain.Chain.{Chain}
 use Rattle.lin_chain.specs.Chains.{kind_in}
 use Rattle.lin_chain.proofs.Chaining.{right_with_found}

@@ -1,5 +1,5 @@
 use Rattle.std.proofs.Common.{◌≡◌, ◌<◌, ◌≤◌, ◌∙◌, ap, subst, arith}
-use Rattle.lin_orders.specs.Parts.{events_at}
+use Rattle.lin_order.specs.Parts.{events_at}
 use Rattle.lin_engines.specs.Exacts.{HasExact}
 use Rattle.lin_chain.specs.Chains.{IsKept}
 use Rattle.lin_chain.specs.declared.chain.Chain.{Chain}

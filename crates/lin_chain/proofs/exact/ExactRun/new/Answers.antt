@@ -1,6 +1,6 @@
 use Rattle.std.proofs.Common.{[], subst, sym}
 use Rattle.lin_frontier.specs.Frontiers.{IsPending}
-use Rattle.lin_chain.proofs.exact.Exact.new.Goals as goal
+use Rattle.lin_chain.proofs.exact.ExactRun.new.Goals as goal
 
 pub returns-clause-exact : goal.returns-clause-exact
 returns-clause-exact c h = record {

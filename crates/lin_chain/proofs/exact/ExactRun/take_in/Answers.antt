@@ -6,12 +6,12 @@ use Rattle.lin_events.specs.Operations.{IsEvent}
 use Rattle.lin_events.specs.WellFormed.{IsWellFormed}
 use Rattle.lin_objects.specs.Steps.{Step, start}
 use Rattle.lin_frontier.specs.Frontiers.{IsFrontier, IsNextEvent, IsPending}
-use Rattle.lin_orders.specs.Configurations.{IsOver}
+use Rattle.lin_order.specs.Configurations.{IsOver}
 use Rattle.lin_chain.specs.Exact.{IsExact}
-use Rattle.lin_orders.specs.Linearizable.{IsLinearizableAs}
+use Rattle.lin_order.specs.Linearizable.{IsLinearizableAs}
 use Rattle.lin_engines.specs.lemmas.Events.{event_taken, next_event}
-use Rattle.lin_chain.proofs.exact.Exact.take_in.Goals as goal
-use Rattle.lin_chain.proofs.exact.Exact.take_in.Goals.{In_ok-step}
+use Rattle.lin_chain.proofs.exact.ExactRun.take_in.Goals as goal
+use Rattle.lin_chain.proofs.exact.ExactRun.take_in.Goals.{In_ok-step}
 
 next : (c : In_ok-step) (functions : Item → Name → Bool) (h : List Event) → IsWellFormed functions h → IsEvent h c.args.at c.args.event.now → IsExact c.args.self.now h c.args.at
     → IsNextEvent functions (take c.args.at h) c.args.self.now.pending.items c.args.at c.args.event.now

@@ -1,5 +1,5 @@
 use Rattle.std.proofs.Common.{length, ◌-◌, ◌≡◌, ◌≤◌, ◌<◌, ◌+◌, ℕ}
-use Rattle.lin_orders.specs.Parts.{events_at}
+use Rattle.lin_order.specs.Parts.{events_at}
 use Rattle.lin_engines.specs.Lanes.{IsFor, IsLane, IsUnder}
 use Rattle.lin_engines.proofs.lane.Lane.go_on.Given as goal
 

@@ -1,7 +1,7 @@
 use Rattle.std.proofs.Common.{◌≡◌, ◌<◌, ◌≤◌, IsTrue, true, false, length, refl, sym, subst, arith}
 use Rattle.std.specs.Prelude.{not}
-use Rattle.lin_orders.specs.Parts.{events_at}
-use Rattle.lin_witness.specs.lemmas.Picks.{event_there, length-events_at}
+use Rattle.lin_order.specs.Parts.{events_at}
+use Rattle.lin_engines.specs.lemmas.Picks.{event_there, length-events_at}
 use Rattle.lin_engines.specs.Engines.{IsNext}
 use Rattle.lin_engines.proofs.Lanes.{standing_further}
 use Rattle.lin_engines.proofs.lane.Lane.next.Goals as goal

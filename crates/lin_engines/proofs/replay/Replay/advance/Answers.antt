@@ -7,9 +7,9 @@ use Rattle.lin_events.specs.Operations.{IsEvent}
 use Rattle.lin_events.specs.WellFormed.{IsWellFormed}
 use Rattle.lin_objects.specs.Steps.{Step, start}
 use Rattle.lin_frontier.specs.Frontiers.{IsNextEvent}
-use Rattle.lin_orders.specs.Configurations.{IsOver}
+use Rattle.lin_order.specs.Configurations.{IsOver}
 use Rattle.lin_engines.specs.Replays.{IsCurrent, IsKnown, IsPrepared, IsReplay}
-use Rattle.lin_orders.specs.Linearizable.{IsLinearizableAs}
+use Rattle.lin_order.specs.Linearizable.{IsLinearizableAs}
 use Rattle.lin_engines.specs.lemmas.Events.{event_taken, next_event}
 use Rattle.lin_engines.proofs.Replaying.{known_current, replay_advanced, replay_renamed}
 use Rattle.lin_engines.proofs.replay.Replay.advance.Goals as goal

@@ -1,5 +1,5 @@
 use Rattle.std.proofs.Common.{◌≤◌, sym, subst}
-use Rattle.lin_open.specs.Opens.{IsPast}
+use Rattle.lin_frontier.specs.Opens.{IsPast}
 use Rattle.lin_frontier.specs.Frontiers.{IsNextEvent}
 use Rattle.lin_engines.specs.declared.replay.Replay.{Replay}
 use Rattle.lin_engines.proofs.replay.Replay.stay.Goals as goal

@@ -4,8 +4,8 @@ use Rattle.lin_events.specs.declared.events.Event.{Event}
 use Rattle.lin_events.specs.Operations.{IsEvent}
 use Rattle.lin_objects.specs.Steps.{Step, start}
 use Rattle.lin_objects.specs.declared.any.Any.{Any}
-use Rattle.lin_orders.specs.Configurations.{IsOver}
-use Rattle.lin_orders.specs.Linearizable.{IsLinearizableAs}
+use Rattle.lin_order.specs.Configurations.{IsOver}
+use Rattle.lin_order.specs.Linearizable.{IsLinearizableAs}
 use Rattle.lin_engines.specs.Engines.{IsNext}
 use Rattle.lin_engines.specs.Replays.{IsReplay}
 use Rattle.lin_engines.proofs.replay.ReplayEngine.take_in.Goals as goal

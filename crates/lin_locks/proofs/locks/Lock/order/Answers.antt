@@ -1,5 +1,5 @@
 use Rattle.std.proofs.Common.{take}
-use Rattle.lin_orders.specs.lemmas.Lists.{if_ok_weaker}
+use Rattle.lin_order.specs.lemmas.Lists.{if_ok_weaker}
 use Rattle.lin_locks.specs.Locks.{reached_in}
 use Rattle.lin_locks.proofs.Next.{right_now}
 use Rattle.lin_locks.proofs.locks.Lock.order.Goals as goal

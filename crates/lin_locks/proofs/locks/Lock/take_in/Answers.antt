@@ -1,6 +1,6 @@
 use Rattle.std.proofs.Common.{◌≡◌, ◌++◌, ◌∷◌, [], Ok, List, take, refl, sym, ap, subst, ◌∙◌, arith}
 use Rattle.lin_objects.specs.declared.kinds.Kind.TheVariants.{Mutex}
-use Rattle.lin_orders.specs.Linearizable.{IsLinearizableAs}
+use Rattle.lin_order.specs.Linearizable.{IsLinearizableAs}
 use Rattle.lin_locks.specs.declared.changes.Change.{Change}
 use Rattle.lin_locks.specs.declared.locks.Lock.{Lock}
 use Rattle.lin_locks.specs.inner.Known.{known_of}

@@ -1,5 +1,5 @@
 use Rattle.std.proofs.Common.{◌≡◌, ℕ, Option, sym, ap, subst, ◌∙◌}
-use Rattle.lin_orders.specs.ConfigurationLaws.{with_event}
+use Rattle.lin_order.specs.ConfigurationLaws.{with_event}
 use Rattle.lin_locks.specs.declared.latest.Running.{Running}
 use Rattle.lin_locks.specs.inner.Changes.{invoked, undone}
 use Rattle.lin_locks.specs.inner.Known.{Known, Part, known_of}

@@ -6,8 +6,8 @@ use Rattle.lin_events.specs.declared.events.Body.TheVariants.{Ok as Returns}
 use Rattle.lin_events.specs.declared.events.Event.{Event}
 use Rattle.lin_events.specs.WellFormed.{IsWellFormed}
 use Rattle.lin_events.specs.WellFormedLaws.{WellFormedIsAlternating}
-use Rattle.lin_orders.specs.ConfigurationLaws.{with_event}
-use Rattle.lin_orders.specs.lemmas.Completing.{ok_completes}
+use Rattle.lin_order.specs.ConfigurationLaws.{with_event}
+use Rattle.lin_order.specs.lemmas.Completing.{ok_completes}
 use Rattle.lin_locks.specs.inner.Known.{Known, known_of}
 use Rattle.lin_locks.specs.declared.latest.Latest.{Latest}
 use Rattle.lin_locks.specs.declared.latest.Running.{Running}

@@ -8,9 +8,9 @@ use Rattle.lin_events.specs.Alternation.{IsAlternating}
 use Rattle.lin_events.specs.WellFormed.{IsWellFormed}
 use Rattle.lin_events.specs.WellFormedLaws.{WellFormedIsAlternating}
 use Rattle.lin_objects.specs.declared.kinds.Kind.TheVariants.{Mutex}
-use Rattle.lin_orders.specs.Linearizable.{IsLinearizableAs}
-use Rattle.lin_orders.specs.ConfigurationLaws.{with_event}
-use Rattle.lin_orders.specs.lemmas.Completing.{fail_completes}
+use Rattle.lin_order.specs.Linearizable.{IsLinearizableAs}
+use Rattle.lin_order.specs.ConfigurationLaws.{with_event}
+use Rattle.lin_order.specs.lemmas.Completing.{fail_completes}
 use Rattle.lin_locks.specs.declared.latest.Running.{Running}
 use Rattle.lin_locks.specs.inner.Known.{Known, Part, known_of, part_of}
 use Rattle.lin_locks.specs.inner.Debts.{lock_call}

@@ -1,8 +1,8 @@
 use Rattle.std.proofs.Common.{◌≡◌, Option, Ok, Result, refl}
 use Rattle.lin_events.specs.declared.lists.OutOfMemory.{OutOfMemory}
 use Rattle.lin_locks.specs.declared.changes.Change.{Change}
-use Rattle.lin_orders.specs.ConfigurationLaws.{with_event}
-use Rattle.lin_orders.specs.lemmas.Completing.{info_completes}
+use Rattle.lin_order.specs.ConfigurationLaws.{with_event}
+use Rattle.lin_order.specs.lemmas.Completing.{info_completes}
 use Rattle.lin_locks.specs.inner.Known.{part_of}
 use Rattle.lin_locks.specs.inner.Latest.{latest_in}
 use Rattle.lin_locks.proofs.Going.{filled_informed}

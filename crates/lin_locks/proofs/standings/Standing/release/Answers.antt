@@ -1,7 +1,7 @@
 use Rattle.std.proofs.Common.{true, false, not, set, sym, ap, subst, ◌∙◌, Ok, Some}
 use Rattle.std.specs.Bool.{if◌then◌else◌}
 use Rattle.lin_events.specs.declared.calls.Reply.TheVariants.{Done}
-use Rattle.lin_orders.specs.ConfigurationLaws.{with_event}
+use Rattle.lin_order.specs.ConfigurationLaws.{with_event}
 use Rattle.lin_locks.specs.inner.Fillings.{AreFilled}
 use Rattle.lin_locks.specs.inner.Known.{part_of}
 use Rattle.lin_locks.specs.inner.Sides.{AreSides}

@@ -1,7 +1,7 @@
 use Rattle.std.proofs.Common.{sym, ap, subst, ◌∙◌}
 use Rattle.lin_objects.specs.declared.kinds.Kind.TheVariants.{Mutex}
-use Rattle.lin_orders.specs.Linearizable.{IsLegalOrderAs}
-use Rattle.lin_orders.specs.lemmas.Lists.{if_ok_weaker}
+use Rattle.lin_order.specs.Linearizable.{IsLegalOrderAs}
+use Rattle.lin_order.specs.lemmas.Lists.{if_ok_weaker}
 use Rattle.lin_locks.specs.inner.Fillings.{filled, settled}
 use Rattle.lin_locks.specs.inner.Known.{known_of}
 use Rattle.lin_locks.proofs.Going.{filled_is_legal}

@@ -1,5 +1,5 @@
 use Rattle.std.proofs.Common.{◌≡◌, ◌++◌, List, length}
-use Rattle.lin_orders.specs.declared.placed.Placed.{Placed}
+use Rattle.lin_order.specs.declared.placed.Placed.{Placed}
 use Rattle.lin_frontier.specs.Nodes.{Spells}
 use Rattle.lin_frontier.specs.lemmas.Spelling.{IsReading}
 use Rattle.lin_members.proofs.chains.Chains.append.Given as goal

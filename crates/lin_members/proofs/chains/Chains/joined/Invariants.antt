@@ -1,5 +1,5 @@
 use Rattle.std.proofs.Common.{◌≡◌, ◌≤◌, List, drop, length, reverse}
-use Rattle.lin_orders.specs.declared.placed.Placed.{Placed}
+use Rattle.lin_order.specs.declared.placed.Placed.{Placed}
 use Rattle.lin_members.specs.Rounds.{joined}
 use Rattle.lin_members.specs.inner.Chains.{AreChained}
 use Rattle.lin_members.proofs.chains.Chains.joined.Given as goal

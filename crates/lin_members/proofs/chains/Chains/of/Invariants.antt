@@ -1,5 +1,5 @@
 use Rattle.std.proofs.Common.{◌≡◌, ◌∷◌, [], List, reverse, vec_len}
-use Rattle.lin_orders.specs.declared.placed.Placed.{Placed}
+use Rattle.lin_order.specs.declared.placed.Placed.{Placed}
 use Rattle.lin_members.specs.Searching.{in_rounds}
 use Rattle.lin_members.specs.inner.Chains.{AreChained}
 use Rattle.lin_members.proofs.chains.Chains.of.Given as goal

@@ -1,7 +1,7 @@
 use Rattle.std.proofs.Common.{ℕ, Option, ◌≡◌, ◌++◌, ◌∷◌, [], ◌∙◌, ap, arith, inl, inr, length, length-append, subst, sym}
 use Rattle.std.proofs.lemmas.Bool.{cases_lt}
 use Rattle.lin_events.specs.declared.calls.Reply.{Reply}
-use Rattle.lin_orders.specs.declared.placed.Placed.{Placed}
+use Rattle.lin_order.specs.declared.placed.Placed.{Placed}
 use Rattle.lin_frontier.specs.lemmas.Spelling.{IsReading, reading_start, reading_inside, reading_step, reversed}
 use Rattle.lin_members.proofs.rounds.RoundNodes.entries.Goals as goal
 use Rattle.lin_members.proofs.rounds.RoundNodes.entries.Goals.{else-loop-test, then-loop-test+in_default}

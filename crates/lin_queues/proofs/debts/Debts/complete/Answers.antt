@@ -8,8 +8,8 @@ use Rattle.lin_events.specs.declared.calls.Call.{Call}
 use Rattle.lin_events.specs.declared.calls.Name.{Name}
 use Rattle.lin_events.specs.declared.calls.Reply.{Reply}
 use Rattle.lin_events.specs.WellFormed as formed
-use Rattle.lin_orders.specs.ConfigurationLaws.{with_event}
-use Rattle.lin_debts.specs.Laws.{Completes}
+use Rattle.lin_order.specs.ConfigurationLaws.{with_event}
+use Rattle.lin_queues.specs.Laws.{Completes}
 use Rattle.lin_queues.specs.Engines.{AreDebtsOf, IsCompleting}
 use Rattle.lin_queues.proofs.Going.{never, some_open, taken_off}
 use Rattle.lin_queues.proofs.debts.Debts.complete.Goals as goal

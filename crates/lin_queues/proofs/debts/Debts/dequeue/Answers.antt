@@ -2,7 +2,7 @@ use Rattle.std.proofs.Common.{subst, ap, ◌∙◌}
 use Rattle.lin_events.specs.declared.calls.Call.TheVariants.{Dequeue}
 use Rattle.lin_events.specs.declared.calls.Reply.TheVariants.{Value}
 use Rattle.lin_queues.specs.Engines.{IsCompleting}
-use Rattle.lin_orders.specs.ConfigurationLaws.{with_event}
+use Rattle.lin_order.specs.ConfigurationLaws.{with_event}
 use Rattle.lin_queues.proofs.Going.{never}
 use Rattle.lin_events.specs.declared.calls.Val.TheVariants.{Nil, Item as Held}
 use Rattle.lin_queues.proofs.debts.Debts.dequeue.Goals as goal

@@ -1,6 +1,6 @@
 use Rattle.std.proofs.Common.{subst}
 use Rattle.lin_events.specs.declared.calls.Call.TheVariants.{Enqueue}
-use Rattle.lin_orders.specs.ConfigurationLaws.{with_event}
+use Rattle.lin_order.specs.ConfigurationLaws.{with_event}
 use Rattle.lin_queues.specs.Engines.{IsCompleting}
 use Rattle.lin_queues.proofs.Going.{never}
 use Rattle.lin_queues.proofs.debts.Debts.enqueue.Goals as goal

@@ -6,8 +6,8 @@ use Rattle.lin_events.specs.declared.events.Body.{Body}
 use Rattle.lin_events.specs.declared.events.Body.TheVariants.{Fail}
 use Rattle.lin_events.specs.declared.calls.Name.{Name}
 use Rattle.lin_events.specs.WellFormed as formed
-use Rattle.lin_orders.specs.ConfigurationLaws.{with_event}
-use Rattle.lin_debts.specs.Laws.{Completes}
+use Rattle.lin_order.specs.ConfigurationLaws.{with_event}
+use Rattle.lin_queues.specs.Laws.{Completes}
 use Rattle.lin_queues.specs.Engines.{AreDebtsOf}
 use Rattle.lin_queues.specs.Opens.{AreOpen}
 use Rattle.lin_queues.proofs.Lists.{ok_is}

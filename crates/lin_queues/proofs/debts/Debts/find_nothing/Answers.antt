@@ -2,7 +2,7 @@ use Rattle.std.proofs.Common.{length, sym, subst, Contains}
 use Rattle.lin_events.specs.declared.calls.Call.TheVariants.{Dequeue}
 use Rattle.lin_events.specs.declared.calls.Reply.TheVariants.{Value}
 use Rattle.lin_events.specs.declared.calls.Val.TheVariants.{Nil}
-use Rattle.lin_orders.specs.ConfigurationLaws.{with_event}
+use Rattle.lin_order.specs.ConfigurationLaws.{with_event}
 use Rattle.lin_queues.specs.Engines.{AreDebtsOf}
 use Rattle.lin_queues.specs.Gathering.{IsCovered, IsReturning}
 use Rattle.lin_queues.specs.Members.{Told, view_of}

@@ -1,5 +1,5 @@
 use Rattle.std.proofs.Common.{sym, ap, ◌∙◌, subst}
-use Rattle.lin_orders.specs.ConfigurationLaws.{with_event}
+use Rattle.lin_order.specs.ConfigurationLaws.{with_event}
 use Rattle.lin_queues.specs.declared.opens.OpenCall.{OpenCall}
 use Rattle.lin_queues.specs.Opens.{AreOpen}
 use Rattle.lin_queues.specs.Reaching.{invoked}

@@ -1,6 +1,6 @@
 use Rattle.std.proofs.Common.{length, sym, ◌∙◌, subst, refl, Contains, ◌≡◌, ◌-◌, ◌++◌, ◌∷◌, [], List, arith}
 use Rattle.lin_events.specs.declared.calls.Call.TheVariants.{Enqueue}
-use Rattle.lin_orders.specs.ConfigurationLaws.{with_event}
+use Rattle.lin_order.specs.ConfigurationLaws.{with_event}
 use Rattle.lin_queues.specs.Engines.{AreDebtsOf}
 use Rattle.lin_queues.specs.Gathering.{HaveReturned, IsCovered, IsReturning}
 use Rattle.lin_queues.specs.Members.{AreEnqueues}

@@ -1,5 +1,5 @@
 use Rattle.std.proofs.Common.{subst, sym, length, inl, inr, ◌∙◌}
-use Rattle.lin_orders.specs.ConfigurationLaws.{with_event}
+use Rattle.lin_order.specs.ConfigurationLaws.{with_event}
 use Rattle.lin_queues.specs.Members.{view_of}
 use Rattle.lin_queues.specs.Opens.{AreDequeues}
 use Rattle.lin_queues.proofs.Lists.{on_ok, on_ok_both}

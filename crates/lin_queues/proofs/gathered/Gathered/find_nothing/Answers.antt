@@ -1,4 +1,4 @@
-use Rattle.lin_orders.specs.ConfigurationLaws.{with_event}
+use Rattle.lin_order.specs.ConfigurationLaws.{with_event}
 use Rattle.lin_queues.specs.Members.{view_of}
 use Rattle.lin_queues.proofs.Lists.{on_ok}
 use Rattle.lin_queues.proofs.AfterOk.{nothing_same, nothing_emptied}

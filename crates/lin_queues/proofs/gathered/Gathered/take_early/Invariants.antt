@@ -1,8 +1,8 @@
 use Rattle.std.proofs.Common.{◌≡◌, ◌<◌, ℕ, List, Some, slice_get, length}
 use Rattle.lin_events.specs.declared.events.Event.{Event}
 use Rattle.lin_events.specs.declared.calls.Call.TheVariants.{Enqueue}
-use Rattle.lin_orders.specs.declared.placed.Placed.{Placed}
-use Rattle.lin_debts.specs.Debts.{IsWhole}
+use Rattle.lin_order.specs.declared.placed.Placed.{Placed}
+use Rattle.lin_queues.specs.Debts.{IsWhole}
 use Rattle.lin_queues.specs.declared.opens.OpenCall.{OpenCall}
 use Rattle.lin_queues.specs.Gains.{Gains}
 use Rattle.lin_queues.specs.Gathering.{IsCovered, Keeps, MayTakeEarly}

@@ -4,7 +4,7 @@ use Rattle.std.proofs.lemmas.Bool.{cases_lt, not-false}
 use Rattle.std.proofs.lemmas.Option.{slice_get_within, get_or_from_slice_get}
 use Rattle.lin_events.specs.Sameness.{item_same}
 use Rattle.lin_queues.specs.declared.members.Debt.{Debt}
-use Rattle.lin_queues.proofs.members.Member.has_debts_of.Goals as goal
+use Rattle.lin_queues.proofs.members.QueueMember.has_debts_of.Goals as goal
 
 at_same : {A : Type 0} (xs : List A) (k i : ℕ) (x d : A) → k ≡ i → slice_get xs k ≡ Some x → get_or xs i d ≡ x
 at_same xs k i x d e at = ap (λ j. get_or xs j d) (sym e) ∙ get_or_from_slice_get xs k x d at

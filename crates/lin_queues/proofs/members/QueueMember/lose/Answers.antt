@@ -1,7 +1,7 @@
 use Rattle.std.proofs.Common.{rules, ap, ◌∙◌, ◌++◌, ◌∷◌, []}
 use Rattle.std.proofs.lemmas.Fn.{filter_same}
 use Rattle.lin_queues.specs.Members.{view_of}
-use Rattle.lin_queues.proofs.members.Member.lose.Goals as goal
+use Rattle.lin_queues.proofs.members.QueueMember.lose.Goals as goal
 
 pub returns : goal.returns
 returns c =

@@ -1,7 +1,7 @@
 use Rattle.std.proofs.Common.{rules, ap, ◌+◌}
 use Rattle.std.proofs.lemmas.Fn.{filter_same}
 use Rattle.lin_queues.specs.Members.{view_of}
-use Rattle.lin_queues.proofs.members.Member.pass.Goals as goal
+use Rattle.lin_queues.proofs.members.QueueMember.pass.Goals as goal
 
 pub returns : goal.returns
 returns c = ap (λ l. record (view_of c.args.self.now) { low = c.args.self.now.low + 1; gone = l }) (filter_same _ _ _ (λ x b f' k. search rules) _ _ c.retain.ensures.filtered)

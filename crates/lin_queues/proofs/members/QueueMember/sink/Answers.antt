@@ -8,7 +8,7 @@ use Rattle.lin_queues.proofs.Telling.{told_sunk, told_passed, told_many, passed_
 use Rattle.lin_queues.specs.Reaching.{Sinks, rests, passes, owes}
 use Rattle.lin_queues.specs.declared.elements.Element.{Element}
 use Rattle.lin_queues.proofs.Lists.{one_there}
-use Rattle.lin_queues.proofs.members.Member.sink.Goals as goal
+use Rattle.lin_queues.proofs.members.QueueMember.sink.Goals as goal
 
 pub returns-then-len-most-clause-stuck : goal.returns-then-len-most-clause-stuck
 returns-then-len-most-clause-stuck c = λ is whole order n enqueues told owes.

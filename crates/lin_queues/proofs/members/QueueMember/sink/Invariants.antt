@@ -1,9 +1,9 @@
 use Rattle.std.proofs.Common.{length, ◌-◌, ℕ, List}
 use Rattle.lin_events.specs.declared.events.Event.{Event as EventOf}
-use Rattle.lin_orders.specs.declared.placed.Placed.{Placed as PlacedOf}
+use Rattle.lin_order.specs.declared.placed.Placed.{Placed as PlacedOf}
 use Rattle.lin_queues.specs.Members.{AreEnqueues, AreOwed, IsInside, Told, View, view_of}
 use Rattle.lin_queues.specs.Reaching.{Sinks}
-use Rattle.lin_queues.proofs.members.Member.sink.Given as goal
+use Rattle.lin_queues.proofs.members.QueueMember.sink.Given as goal
 
 abbrev pub invariant-loop-self : goal.invariant-loop-self
 invariant-loop-self l = record {

@@ -3,7 +3,7 @@ use Rattle.std.proofs.Common.{◌≡◌, ◌<◌, ℕ, Some, All, length, slice_
 use Rattle.std.specs.Prelude.{IfOk, IsOk}
 use Rattle.lin_events.specs.declared.items.Item.{Item}
 use Rattle.lin_objects.specs.declared.kinds.Kind.{Kind}
-use Rattle.lin_orders.specs.Parts.{events_at, part}
+use Rattle.lin_order.specs.Parts.{events_at, part}
 use Rattle.lin_events.specs.declared.meter.Meter.{Meter}
 use Rattle.lin_engines.specs.declared.ends.End.TheVariants.{Alive}
 use Rattle.lin_engines.specs.Ends.{IsEndOf}

@@ -1,7 +1,7 @@
 use Rattle.std.proofs.Common.{arith}
 use Rattle.std.proofs.lemmas.Option.{slice_get_within}
 use Rattle.lin_objects.specs.Kinds.{kind_of}
-use Rattle.lin_orders.specs.Merging.{lists_of, AreLegalParts}
+use Rattle.lin_order.specs.Merging.{lists_of, AreLegalParts}
 use Rattle.lin_session.proofs.kept.Objects.merged_order.Goals as goal
 
 pub returns-in-Ok : goal.returns-in-Ok

@@ -1,6 +1,6 @@
 use Rattle.std.proofs.lemmas.Result.{IfOk-weaker}
 use Rattle.lin_objects.specs.Kinds.{kind_of}
-use Rattle.lin_orders.specs.Parts.{events_at}
+use Rattle.lin_order.specs.Parts.{events_at}
 use Rattle.lin_engines.specs.declared.ends.End.TheVariants.{Alive}
 use Rattle.lin_session.proofs.Advancing.{object_there, right_there, spelled_length, told_at}
 use Rattle.lin_session.proofs.Asking.{order_told}

@@ -5,7 +5,7 @@ use Rattle.lin_objects.specs.Kinds.{kind_of}
 use Rattle.lin_engines.specs.declared.ends.End.TheVariants.{Alive}
 use Rattle.lin_session.specs.Marks.{IsToldOf}
 use Rattle.lin_session.specs.inner.Objects.{marks_in}
-use Rattle.lin_orders.specs.Linearizable.{IsLegalOrderFor}
+use Rattle.lin_order.specs.Linearizable.{IsLegalOrderFor}
 use Rattle.lin_session.proofs.kept.Objects.order_of.Goals as goal
 
 pub order_listed-requires-clause-alive : goal.order_listed-requires-clause-alive

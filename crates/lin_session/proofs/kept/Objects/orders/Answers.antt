@@ -7,9 +7,9 @@ use Rattle.lin_events.specs.declared.items.Item.{Item}
 use Rattle.lin_events.specs.declared.items.Item.TheVariants.{Int}
 use Rattle.lin_lists.specs.lemmas.Lists.{take_next}
 use Rattle.lin_objects.specs.Kinds.{kind_of}
-use Rattle.lin_orders.specs.declared.placed.Placed.{Placed}
-use Rattle.lin_orders.specs.Linearizable.{IsLegalOrderFor}
-use Rattle.lin_orders.specs.Merging.{lists_of}
+use Rattle.lin_order.specs.declared.placed.Placed.{Placed}
+use Rattle.lin_order.specs.Linearizable.{IsLegalOrderFor}
+use Rattle.lin_order.specs.Merging.{lists_of}
 use Rattle.lin_lists.specs.lemmas.Taken.{zip_push}
 use Rattle.lin_session.proofs.kept.Objects.orders.Goals as goal
 

@@ -1,6 +1,6 @@
 use Rattle.std.proofs.Common.{sym, subst, arith}
 use Rattle.std.proofs.lemmas.Option.{slice_get_within}
-use Rattle.lin_orders.specs.Parts.{ArePositionsOf}
+use Rattle.lin_order.specs.Parts.{ArePositionsOf}
 use Rattle.lin_session.proofs.Asking.{whole_picked}
 use Rattle.lin_session.proofs.Found.{empty_list, object_at}
 use Rattle.lin_session.proofs.Knowing.{unlisted_empty}

@@ -8,8 +8,8 @@ use Rattle.lin_answers.specs.declared.answers.Verdict.TheVariants.{No}
 use Rattle.lin_chain.specs.Chains.{IsRight, told_in}
 use Rattle.lin_events.specs.declared.calls.Name.{Name}
 use Rattle.lin_events.specs.WellFormed.{IsWellFormed}
-use Rattle.lin_orders.specs.Parts.{events_at}
-use Rattle.lin_orders.specs.Orders.{is_of_key}
+use Rattle.lin_order.specs.Parts.{events_at}
+use Rattle.lin_order.specs.Orders.{is_of_key}
 use Rattle.lin_session.specs.Marks.{IsMarkedAs, IsToldOf}
 use Rattle.lin_session.specs.Objects.{IsObject}
 use Rattle.lin_session.specs.Known.{count_before}

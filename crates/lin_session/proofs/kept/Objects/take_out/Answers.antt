@@ -2,7 +2,7 @@ use Rattle.std.proofs.Common.{◌≡◌, ◌-◌, ◌++◌, ◌∷◌, length, l
 use Rattle.std.proofs.lemmas.List.Elements.{filter-append}
 use Rattle.lin_events.specs.Items.{item_eq}
 use Rattle.lin_events.specs.declared.events.Event.{Event}
-use Rattle.lin_orders.specs.Parts.{part}
+use Rattle.lin_order.specs.Parts.{part}
 use Rattle.lin_session.specs.Leaving.{IsTouched}
 use Rattle.lin_session.proofs.Listed.{marks_unchanged}
 use Rattle.lin_session.proofs.Around.{AreKept-without, AreKept-without_unlisted, IsCutChain, StaysAhead, part-more}

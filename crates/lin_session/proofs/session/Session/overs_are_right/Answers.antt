@@ -1,5 +1,5 @@
 use Rattle.std.proofs.Common.{sym, subst}
-use Rattle.lin_orders.specs.Parts.{part}
+use Rattle.lin_order.specs.Parts.{part}
 use Rattle.lin_engines.specs.declared.ends.End.TheVariants.{Over}
 use Rattle.lin_engines.specs.Ends.{IsEndOf}
 use Rattle.lin_objects.specs.Kinds.{kind_of}

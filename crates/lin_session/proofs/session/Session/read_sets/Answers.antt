@@ -3,7 +3,7 @@ use Rattle.std.proofs.lemmas.Result.{IfErr-weaker, IfOk-weaker}
 use Rattle.lin_events.specs.WellFormed.{IsWellFormed}
 use Rattle.lin_objects.specs.Kinds.{functions_of, kind_of}
 use Rattle.lin_order.specs.Refutations.{IsRefutation, sets_of}
-use Rattle.lin_orders.specs.Parts.{part}
+use Rattle.lin_order.specs.Parts.{part}
 use Rattle.lin_answers.specs.declared.answers.Scope.TheVariants.{Object}
 use Rattle.lin_answers.specs.declared.answers.Verdict.TheVariants.{No}
 use Rattle.lin_answers.specs.Answers.{IsOverSomewhere, kinds_in}

@@ -13,7 +13,7 @@ use Rattle.lin_session.specs.inner.Objects.{marks_in}
 use Rattle.lin_session.specs.Sessions.{Standing}
 use Rattle.lin_session.specs.Known.{count_before, mark_of}
 use Rattle.lin_session.specs.Leaving.{IsMarkAfter, IsTouched}
-use Rattle.lin_orders.specs.Orders.{is_of_key}
+use Rattle.lin_order.specs.Orders.{is_of_key}
 use Rattle.lin_session.proofs.session.Session.remove.Goals as goal
 
 pub invariant_of-self : goal.invariant_of-self

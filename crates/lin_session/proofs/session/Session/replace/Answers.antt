@@ -6,7 +6,7 @@ use Rattle.std.proofs.lemmas.Option.{same_Some, slice_get_read}
 use Rattle.lin_events.specs.Items.{item_eq}
 use Rattle.lin_objects.specs.Kinds.{kind_of}
 use Rattle.lin_wellformed.specs.Scans.{ready_count}
-use Rattle.lin_orders.specs.Orders.{is_of_key}
+use Rattle.lin_order.specs.Orders.{is_of_key}
 use Rattle.lin_answers.specs.declared.edits.Edit.TheVariants.{Replace}
 use Rattle.lin_session.specs.Objects.{AreRight}
 use Rattle.lin_session.specs.inner.Objects.{marks_in}

@@ -4,7 +4,7 @@ use Rattle.lin_sets.specs.declared.changes.Change.{Change}
 use Rattle.lin_sets.specs.declared.changes.Change.TheVariants.{Ended}
 use Rattle.lin_sets.proofs.Forgetting.{on_err}
 use Rattle.lin_sets.proofs.Same.{room_made}
-use Rattle.lin_orders.specs.lemmas.Lists.{if_ok_weaker}
+use Rattle.lin_order.specs.lemmas.Lists.{if_ok_weaker}
 use Rattle.lin_sets.proofs.Whole.{crashed}
 use Rattle.lin_sets.proofs.intervals.Intervals.add_event.Goals as goal
 

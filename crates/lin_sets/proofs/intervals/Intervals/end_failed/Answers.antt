@@ -4,8 +4,8 @@ use Rattle.lin_sets.specs.declared.changes.Change.{Change}
 use Rattle.lin_sets.specs.declared.changes.Change.TheVariants.{Ended}
 use Rattle.lin_sets.proofs.Forgetting.{on_err}
 use Rattle.lin_sets.proofs.Same.{room_made}
-use Rattle.lin_orders.specs.lemmas.Completing.{fail_completes}
-use Rattle.lin_orders.specs.lemmas.Lists.{if_ok_weaker}
+use Rattle.lin_order.specs.lemmas.Completing.{fail_completes}
+use Rattle.lin_order.specs.lemmas.Lists.{if_ok_weaker}
 use Rattle.lin_sets.specs.Steps.{EndsNext}
 use Rattle.lin_sets.proofs.Whole.{ends_opened, opened_there, failed_other}
 use Rattle.lin_sets.proofs.intervals.Intervals.end_failed.Goals as goal

@@ -1,6 +1,6 @@
 use Rattle.std.proofs.Common.{sym, subst}
-use Rattle.lin_orders.specs.lemmas.Completing.{ok_completes}
-use Rattle.lin_orders.specs.lemmas.Lists.{if_ok_weaker}
+use Rattle.lin_order.specs.lemmas.Completing.{ok_completes}
+use Rattle.lin_order.specs.lemmas.Lists.{if_ok_weaker}
 use Rattle.lin_sets.specs.Steps.{EndsNext}
 use Rattle.lin_sets.proofs.Whole.{ends_opened, opened_there, no_answer}
 use Rattle.lin_sets.proofs.Refusing.{no_invocation, odd}

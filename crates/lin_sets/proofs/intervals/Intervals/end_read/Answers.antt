@@ -1,7 +1,7 @@
 use Rattle.std.proofs.Common.{ℕ, List, refl, sym, subst}
 use Rattle.lin_events.specs.declared.items.Item.{Item}
 use Rattle.lin_events.specs.declared.calls.Call.TheVariants.{Read}
-use Rattle.lin_orders.specs.lemmas.Lists.{if_ok_weaker}
+use Rattle.lin_order.specs.lemmas.Lists.{if_ok_weaker}
 use Rattle.lin_sets.specs.News.{IsNews}
 use Rattle.lin_sets.specs.Steps.{ReturnsNext}
 use Rattle.lin_sets.proofs.Beyond.{fits_whole, news_at}

@@ -1,6 +1,6 @@
 use Rattle.std.proofs.Common.{take, sym, subst}
-use Rattle.lin_intervals.specs.Acts.{AreActs}
-use Rattle.lin_orders.specs.lemmas.Lists.{if_ok_weaker}
+use Rattle.lin_sets.specs.Acts.{AreActs}
+use Rattle.lin_order.specs.lemmas.Lists.{if_ok_weaker}
 use Rattle.lin_sets.specs.Intervals.{reached_in}
 use Rattle.lin_sets.proofs.Free.{no_conflict}
 use Rattle.lin_sets.proofs.Acting.{acts_are}

@@ -1,7 +1,7 @@
 use Rattle.std.proofs.Common.{subst}
 use Rattle.lin_objects.specs.declared.kinds.Kind.TheVariants.{Set}
-use Rattle.lin_orders.specs.Linearizable.{IsLinearizableAs}
-use Rattle.lin_orders.specs.lemmas.Lists.{if_ok_weaker}
+use Rattle.lin_order.specs.Linearizable.{IsLinearizableAs}
+use Rattle.lin_order.specs.lemmas.Lists.{if_ok_weaker}
 use Rattle.lin_sets.proofs.Next.{with_next, may_follow, next_told}
 use Rattle.lin_sets.proofs.Same.{still, on_err_weaker}
 use Rattle.lin_sets.proofs.intervals.Intervals.take_in.Goals as goal

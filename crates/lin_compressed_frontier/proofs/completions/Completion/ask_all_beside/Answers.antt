@@ -1,0 +1,55 @@
+use Rattle.std.proofs.Common.{◌+◌, length, Contains, ap, subst, sym, ◌∙◌, arith, inl, inr}
+use Rattle.std.proofs.lemmas.List.Elements.{Contains-push}
+use Rattle.lin_members.specs.Searching.{AreUpdates}
+use Rattle.lin_compressed_frontier.proofs.Placings.{ahead_end, ahead_push, ahead_skip, ahead_start, counting_end, counting_start, counting_turn, early_fewer, early_tried}
+use Rattle.lin_configurations.specs.lemmas.Visiting.{grown_grown}
+use Rattle.lin_compressed_frontier.proofs.completions.Completion.ask_all_beside.Goals as goal
+
+pub returns-in_err-updates-clause-tried : goal.returns-in_err-updates-clause-tried
+returns-in_err-updates-clause-tried g c =
+    counting_end (length c.args.self.now.pending.now) 0 _ _ (counting_start (length c.args.self.now.pending.now) 0 _ _ (omega arith)
+    (early_tried c.args.before.now c.args.member.now.1.until c.args.self.now.pending.now _ _ c.requires.before c.updates.ensures.tried))
+
+pub loop-config-init : goal.loop-config-init
+loop-config-init g c = record {
+  asking = λ now. ahead_start _ _ c.args.self.now.operation.now c.args.self.now.reply.now c.args.self.now.pending.now now c.args.member.now c.updates.new.out.items c.args.nodes.now c.args.out.now.items;
+  counting = counting_start (length c.args.self.now.pending.now) (length c.updates.new.out.items) _ _ (omega (arith, c.in_ok-updates.ensures.few c.requires.overwriting, ap length c.requires.before, early_fewer c.args.member.now.1.until c.args.self.now.pending.now)) (early_tried c.args.before.now c.args.member.now.1.until c.args.self.now.pending.now _ _ c.requires.before c.updates.ensures.tried);
+}
+
+pub ask_one_ahead-requires-clause-places : goal.ask_one_ahead-requires-clause-places
+ask_one_ahead-requires-clause-places g c =
+    let updates = rw c.config.ensures at c.in_ok-updates.ensures.placed in
+    updates.sound c.in-Some.config c.in-Some.placed ((c.loop-config.invariant.asking 0).from_rest (c.in-Some.config, c.in-Some.placed) (subst (λ l. Contains l (c.in-Some.config, c.in-Some.placed)) (sym c.in-Some.ensures.items) (Contains-push c.pop.new.self.items (c.in-Some.config, c.in-Some.placed))))
+
+pub loop-config-preserved : goal.loop-config-preserved
+loop-config-preserved g c = record {
+  asking = λ now. elim c.in_ok-ask_one_ahead.ensures.asked [
+    | inl made ↦
+        ahead_push _ _ c.args.self.now.operation.now c.args.self.now.reply.now c.args.self.now.pending.now now c.args.member.now c.updates.new.out.items c.args.nodes.now c.args.out.now.items c.loop-config.next.items c.pop.new.self.items c.loop-config.nodes c.loop-config.out.items (c.in-Some.config, c.in-Some.placed) c.in-Some.ensures.items
+        c.ask_one_ahead.new.nodes c.ask_one_ahead.new.out.items made.0 c.ask_one_ahead.ensures.grown made.1 (made.2 now, made.3) (c.loop-config.invariant.asking now)
+    | inr none ↦ rw (none.2, none.1) (ahead_skip _ _ c.args.self.now.operation.now c.args.self.now.reply.now c.args.self.now.pending.now now c.args.member.now c.updates.new.out.items c.args.nodes.now c.args.out.now.items c.loop-config.next.items c.pop.new.self.items c.loop-config.nodes c.loop-config.out.items (c.in-Some.config, c.in-Some.placed) c.in-Some.ensures.items none.0 (c.loop-config.invariant.asking now))
+  ];
+  counting = counting_turn (length c.args.self.now.pending.now) c.loop-config.next.items c.pop.new.self.items (c.in-Some.config, c.in-Some.placed) ((length c.args.self.now.pending.now) + 1) _ _ _ c.in-Some.ensures.items (omega arith) c.loop-config.invariant.counting c.ask_one_ahead.ensures.tried;
+}
+
+pub returns-in_err-ask_one_ahead-clause-grown : goal.returns-in_err-ask_one_ahead-clause-grown
+returns-in_err-ask_one_ahead-clause-grown g c = grown_grown c.args.nodes.now c.loop-config.nodes c.ask_one_ahead.new.nodes (c.loop-config.invariant.asking 0).nodes_grown c.ask_one_ahead.ensures.grown
+
+pub returns-in_err-ask_one_ahead-clause-tried : goal.returns-in_err-ask_one_ahead-clause-tried
+returns-in_err-ask_one_ahead-clause-tried g c =
+    counting_end (length c.args.self.now.pending.now) (length c.pop.new.self.items) _ _ (counting_turn (length c.args.self.now.pending.now) c.loop-config.next.items c.pop.new.self.items (c.in-Some.config, c.in-Some.placed) ((length c.args.self.now.pending.now) + 1) _ _ _ c.in-Some.ensures.items (omega arith) c.loop-config.invariant.counting c.ask_one_ahead.ensures.tried)
+
+pub returns-clause-grown : goal.returns-clause-grown
+returns-clause-grown g c = (c.loop-config.invariant.asking 0).nodes_grown
+
+pub returns-clause-found : goal.returns-clause-found
+returns-clause-found g c now = (c.loop-config.invariant.asking now).finding
+
+pub returns-clause-asked : goal.returns-clause-asked
+returns-clause-asked g c now o p d among places gives =
+    ahead_end _ _ c.args.self.now.operation.now c.args.self.now.reply.now c.args.self.now.pending.now now c.args.member.now c.updates.new.out.items c.args.nodes.now c.args.out.now.items c.loop-config.nodes c.loop-config.next.items c.loop-config.out.items (sym c.loop-config.next.ok.0 ∙ c.in_default.ensures.cases.0) o p d
+    (subst (λ l. AreUpdates (g.O.SeqObject.step c.args.self.now.object.now) (g.O.SeqObject.observing c.args.self.now.object.now) l (c.args.member.now.0.state, c.args.member.now.0.placed) c.updates.new.out.items) c.requires.before
+    (rw c.config.ensures at c.in_ok-updates.ensures.placed)) (c.loop-config.invariant.asking now) among places gives
+
+pub returns-clause-tried : goal.returns-clause-tried
+returns-clause-tried g c = counting_end (length c.args.self.now.pending.now) (length c.loop-config.next.items) _ _ c.loop-config.invariant.counting

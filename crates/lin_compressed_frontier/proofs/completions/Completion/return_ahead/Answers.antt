@@ -1,0 +1,6 @@
+use Rattle.std.proofs.Common.{◌∙◌}
+use Rattle.lin_members.specs.Asking.{early_of}
+use Rattle.lin_compressed_frontier.proofs.completions.Completion.return_ahead.Goals as goal
+
+pub return_beside-requires-clause-before : goal.return_beside-requires-clause-before
+return_beside-requires-clause-before g c = c.of-before.ensures ∙ c.deref.ensures.value ∙ c.in_ok-operations.ensures ∙ (λ i. early_of (c.path.ensures i).until (c.as_slice.ensures i))

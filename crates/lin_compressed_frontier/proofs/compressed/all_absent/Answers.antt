@@ -1,0 +1,11 @@
+use Rattle.lin_compressed_frontier.proofs.Making.{made_none, made_more, made_all}
+use Rattle.lin_compressed_frontier.proofs.compressed.all_absent.Goals as goal
+
+pub loop-member-init : goal.loop-member-init
+loop-member-init g c = made_none _ _ c.new-out.result.items c.new-out.ensures.items
+
+pub loop-member-preserved : goal.loop-member-preserved
+loop-member-preserved g c = made_more _ _ c.args.members.now c.loop-member.member-index c.member-item.result c.loop-member.out.items c.push_absent.new.out.items c.loop-member-test.true c.member-item.is c.in_ok-push_absent.ensures c.loop-member.invariant
+
+pub returns : goal.returns
+returns g c = made_all _ _ c.args.members.now c.loop-member.member-index c.loop-member.out.items c.loop-member-test.false c.loop-member.invariant

@@ -1,9 +1,0 @@
-pub mod Lists
-pub mod Ranks
-pub mod Queue
-pub mod Taking
-pub mod Events
-pub mod Stepping
-pub mod Moves
-pub mod Sinking
-pub mod Going

@@ -1,2 +1,0 @@
-pub mod Debts
-pub mod Laws

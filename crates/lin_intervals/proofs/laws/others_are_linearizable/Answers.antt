@@ -1,5 +1,0 @@
-use Rattle.lin_intervals.proofs.Legal.{others_are_linearizable_lem}
-use Rattle.lin_intervals.proofs.laws.others_are_linearizable.Goals as goal
-
-pub returns : goal.returns
-returns c = others_are_linearizable_lem

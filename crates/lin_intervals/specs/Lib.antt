@@ -1,4 +1,0 @@
-pub mod Conflicts
-pub mod Laws
-pub mod Acts
-pub mod Points

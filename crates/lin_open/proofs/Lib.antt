@@ -1,3 +1,0 @@
-pub mod Freshening
-pub mod Marks
-pub mod Holding

@@ -1,5 +1,0 @@
-use Rattle.lin_orders.specs.lemmas.Ending.{start_lem}
-use Rattle.lin_orders.proofs.configurations.configurations_at_start.Goals as goal
-
-pub returns : goal.returns
-returns g c = start_lem _ _

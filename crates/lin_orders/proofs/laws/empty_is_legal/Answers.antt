@@ -1,5 +1,0 @@
-use Rattle.lin_orders.specs.lemmas.Empty.{empty_is_legal_lem}
-use Rattle.lin_orders.proofs.laws.empty_is_legal.Goals as goal
-
-pub returns : goal.returns
-returns c = empty_is_legal_lem

@@ -1,8 +1,0 @@
-use Rattle.lin_orders.specs.lemmas.Prefixes.{prefixes_whole_lem, prefixes_for_lem}
-use Rattle.lin_orders.proofs.laws.prefixes_are_linearizable.Goals as goal
-
-pub returns-clause-whole : goal.returns-clause-whole
-returns-clause-whole c = prefixes_whole_lem
-
-pub returns-clause-object : goal.returns-clause-object
-returns-clause-object c = prefixes_for_lem

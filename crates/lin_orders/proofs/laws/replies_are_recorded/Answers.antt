@@ -1,6 +1,0 @@
-use Rattle.std.proofs.Common.{refl}
-use Rattle.lin_orders.specs.lemmas.Assembling.{one_reply}
-use Rattle.lin_orders.proofs.laws.replies_are_recorded.Goals as goal
-
-pub returns : goal.returns
-returns c h order is at end reply other ok there = one_reply order is.once (record { at = at; reply = other }) (record { at = at; reply = reply }) there (is.each_ok at end reply tt ok) refl

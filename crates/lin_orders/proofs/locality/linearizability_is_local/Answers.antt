@@ -1,5 +1,0 @@
-use Rattle.lin_orders.proofs.Local.{is_local_lem}
-use Rattle.lin_orders.proofs.locality.linearizability_is_local.Goals as goal
-
-pub returns : goal.returns
-returns c = is_local_lem

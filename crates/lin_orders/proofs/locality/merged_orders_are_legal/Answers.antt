@@ -1,5 +1,0 @@
-use Rattle.lin_orders.proofs.MergedLegal.{merged_orders_lem}
-use Rattle.lin_orders.proofs.locality.merged_orders_are_legal.Goals as goal
-
-pub returns : goal.returns
-returns c = merged_orders_lem

@@ -1,6 +1,0 @@
-mod Ordered
-mod Comparing
-mod Finding
-mod Permuting
-mod Zips
-mod Telling

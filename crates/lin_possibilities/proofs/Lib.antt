@@ -1,0 +1,12 @@
+pub mod Showing
+pub mod Listed
+pub mod Taking
+pub mod Overwritten
+pub mod Growing
+pub mod Keeping
+mod Ordered
+mod Comparing
+mod Finding
+mod Permuting
+mod Zips
+mod Telling

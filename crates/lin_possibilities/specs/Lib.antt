@@ -1,0 +1,9 @@
+pub mod Possible
+pub mod After
+pub mod Running
+pub mod inner
+pub mod lemmas
+pub mod Ranks
+pub mod Words
+pub mod Outcomes
+pub mod Texts

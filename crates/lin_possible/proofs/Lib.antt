@@ -1,6 +1,0 @@
-pub mod Showing
-pub mod Listed
-pub mod Taking
-pub mod Overwritten
-pub mod Growing
-pub mod Keeping

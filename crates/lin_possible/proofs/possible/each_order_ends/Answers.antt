@@ -1,5 +1,0 @@
-use Rattle.lin_orders.specs.lemmas.Ending.{ends}
-use Rattle.lin_possible.proofs.possible.each_order_ends.Goals as goal
-
-pub returns : goal.returns
-returns c = λ kind functions h order well_formed is. ends functions h ((c.well_formed_is_alternating.ensures functions h).0 well_formed) _ _ order is

@@ -1,0 +1,26 @@
+use Rattle.std.proofs.Common.{◌<◌, ◌≤◌, ◌+◌, ℕ, arith, sym, subst}
+use Rattle.std.proofs.lemmas.Option.{slice_get_within}
+use Rattle.lin_certificates.specs.BagConflicts.{AtMost}
+use Rattle.lin_certificates.specs.lemmas.Counting.{most_more, most_of, most_same}
+use Rattle.lin_queues.specs.Ranks.{MayPut}
+use Rattle.lin_queues.proofs.counts.puts_ahead.Goals.{then-is_put_ahead, else-is_put_ahead}
+use Rattle.lin_queues.proofs.counts.puts_ahead.Goals as goal
+
+pub loop-at-preserved : goal.loop-at-preserved
+loop-at-preserved c =
+    let Is = λ (x : ℕ). MayPut c.args.events.now x × (x < c.args.place) in
+    let below = c.loop-at.invariant.0 in
+    elim c.if-is_put_ahead.branch [
+      | then-is_put_ahead w ↦
+          subst (λ k. (k ≤ c.loop-at.at + 1) × AtMost k (λ at. Is at × (at < c.loop-at.at + 1))) (sym w.puts-is)
+          (omega (arith, below), most_more Is c.loop-at.puts c.loop-at.at c.loop-at.invariant.1)
+      | else-is_put_ahead w ↦
+          subst (λ k. (k ≤ c.loop-at.at + 1) × AtMost k (λ at. Is at × (at < c.loop-at.at + 1))) (sym w.puts-is)
+          (omega (arith, below), most_same Is c.loop-at.puts c.loop-at.at c.loop-at.invariant.1 (c.is_put_ahead.ensures w.if-is_put_ahead.false))
+    ]
+
+pub returns : goal.returns
+returns c =
+    let ended = c.loop-at-test.false in
+    most_of (λ x. MayPut c.args.events.now x × (x < c.args.place)) c.loop-at.puts c.loop-at.at c.loop-at.invariant.1
+    (λ at is. let within = slice_get_within c.args.events.now at _ is.0.0.1.2 in omega (arith, ended, within))

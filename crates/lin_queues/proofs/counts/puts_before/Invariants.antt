@@ -1,0 +1,8 @@
+use Rattle.std.proofs.Common.{◌<◌, ◌≤◌}
+use Rattle.lin_certificates.specs.BagConflicts.{AtLeast}
+use Rattle.lin_order.specs.Orders.{IsBefore}
+use Rattle.lin_queues.specs.Ranks.{HasPut}
+use Rattle.lin_queues.proofs.counts.puts_before.Given as goal
+
+abbrev pub invariant-loop-at : goal.invariant-loop-at
+invariant-loop-at l = (l.puts ≤ l.at) × AtLeast l.puts (λ k. (HasPut l.events k × IsBefore l.events k l.place) × (k < l.at))

@@ -1,8 +1,0 @@
-use Rattle.std.proofs.Common.{◌<◌, ◌≤◌}
-use Rattle.lin_failures.specs.BagConflicts.{AtLeast}
-use Rattle.lin_orders.specs.Orders.{IsBefore}
-use Rattle.lin_ranks.specs.Ranks.{HasTaken}
-use Rattle.lin_ranks.proofs.counts.takes_before.Given as goal
-
-abbrev pub invariant-loop-at : goal.invariant-loop-at
-invariant-loop-at l = (l.takes ≤ l.at) × AtLeast l.takes (λ k. (HasTaken l.events k × IsBefore l.events k l.place) × (k < l.at))

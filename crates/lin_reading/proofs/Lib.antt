@@ -1,4 +1,0 @@
-pub mod Beginnings
-pub mod Calm
-pub mod Later
-pub mod ValuePairs

@@ -1,5 +1,0 @@
-use Rattle.lin_reasons.proofs.Deciding.{both}
-use Rattle.lin_reasons.proofs.groups.is_between.Goals as goal
-
-pub returns : goal.returns
-returns c = both _ _ c.overwrites-over.ensures c.comes_before-before.ensures

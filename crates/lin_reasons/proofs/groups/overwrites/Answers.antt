@@ -1,5 +1,0 @@
-use Rattle.lin_reasons.proofs.Deciding.{both}
-use Rattle.lin_reasons.proofs.groups.overwrites.Goals as goal
-
-pub returns : goal.returns
-returns c = both _ _ c.returned-made.ensures c.is_before-before.ensures

@@ -1,5 +1,0 @@
-use Rattle.std.proofs.Common.{◌≡◌, ◌⊎◌, Contains}
-use Rattle.lin_reasons.proofs.listing.last_ended.Given as goal
-
-abbrev pub invariant-loop-at : goal.invariant-loop-at
-invariant-loop-at l = (l.last ≡ l.first) ⊎ Contains l.others l.last

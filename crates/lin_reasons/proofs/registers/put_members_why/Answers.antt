@@ -1,5 +1,0 @@
-use Rattle.lin_reasons.proofs.registers.put_members_why.Goals as goal
-
-pub returns : goal.returns
-returns c =
-    c.in_ok-extend_from_slice.ensures.items

@@ -1,8 +1,0 @@
-use Rattle.std.proofs.Common.{◌≡◌, ◌++◌, take}
-use Rattle.std.specs.List.{flat_map}
-use Rattle.lin_reasons.specs.Series.{fact_text}
-use Rattle.lin_reasons.specs.declared.told.Verb.TheVariants.{Failed}
-use Rattle.lin_reasons.proofs.series.put_each_failed.Given as goal
-
-abbrev pub invariant-loop-at : goal.invariant-loop-at
-invariant-loop-at l = l.text.items ≡ l.initial.text.items ++ flat_map (fact_text l.told Failed) (take l.at-index l.list)

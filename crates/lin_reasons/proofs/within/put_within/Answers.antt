@@ -1,5 +1,0 @@
-use Rattle.lin_reasons.proofs.Stretches.{nothing_within}
-use Rattle.lin_reasons.proofs.within.put_within.Goals as goal
-
-pub returns-in_default : goal.returns-in_default
-returns-in_default c = nothing_within c.args.told.now c.args.places.0 c.args.places.1 c.args.text.now.items c.args.named.now.items c.args.calls c.in_default.not-Acquires c.in_default.not-Releases

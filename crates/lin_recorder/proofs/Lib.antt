@@ -1,3 +1,0 @@
-pub mod AsBox
-pub mod Reading
-pub mod Asking

@@ -1,4 +1,0 @@
-pub mod Recorders
-pub mod inner
-pub mod Held
-pub mod Handles

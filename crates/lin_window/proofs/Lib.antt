@@ -1,4 +1,0 @@
-pub mod Passing
-pub mod Quieting
-pub mod Marking
-pub mod Choices

@@ -1,6 +1,0 @@
-use Rattle.lin_window.specs.Tables.{HasMark, listing_of}
-use Rattle.lin_window.proofs.Choices.{IsChoiceBelow}
-use Rattle.lin_window.proofs.choosing.choose.Given as goal
-
-abbrev pub invariant-loop-at : goal.invariant-loop-at
-invariant-loop-at l = IsChoiceBelow (λ x. HasMark l.events (listing_of l.listed) x.at x.mark) (listing_of l.listed) l.at l.shown.items l.more

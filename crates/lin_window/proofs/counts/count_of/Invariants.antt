@@ -1,7 +1,0 @@
-use Rattle.std.proofs.Common.{◌≤◌}
-use Rattle.lin_window.specs.Operations.{IsOfSort}
-use Rattle.lin_window.proofs.Passing.{CountBelow}
-use Rattle.lin_window.proofs.counts.count_of.Given as goal
-
-abbrev pub invariant-loop-at : goal.invariant-loop-at
-invariant-loop-at l = (l.count ≤ l.at) × CountBelow (IsOfSort l.events l.sort) l.at l.count

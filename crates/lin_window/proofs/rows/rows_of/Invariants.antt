@@ -1,7 +1,0 @@
-use Rattle.std.proofs.Common.{take}
-use Rattle.std.specs.List.{AllZip}
-use Rattle.lin_window.specs.Tables.{IsRow, told_of}
-use Rattle.lin_window.proofs.rows.rows_of.Given as goal
-
-abbrev pub invariant-loop-chosen : goal.invariant-loop-chosen
-invariant-loop-chosen l = AllZip (IsRow (told_of l.stretch)) (take l.chosen-index l.shown) l.rows.items

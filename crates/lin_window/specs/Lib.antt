@@ -1,4 +1,0 @@
-pub mod Operations
-pub mod Tables
-pub mod Choices
-pub mod lemmas

@@ -1,7 +1,0 @@
-use Rattle.std.proofs.Common.{◌≡◌, ◌++◌, take}
-use Rattle.std.specs.List.{flat_map}
-use Rattle.lin_words.specs.Tables.{entry_line}
-use Rattle.lin_words.proofs.tables.put_list.Given as goal
-
-abbrev pub invariant-loop-entry : goal.invariant-loop-entry
-invariant-loop-entry l = l.text.items ≡ l.initial.text.items ++ flat_map (entry_line l.width) (take l.entry-index l.entries)

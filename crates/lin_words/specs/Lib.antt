@@ -1,4 +1,0 @@
-pub mod Values
-pub mod Operations
-pub mod Tables
-pub mod Spots
