@@ -48,7 +48,7 @@ BEYOND = {
 # What a question may take, and what an edit leaves.
 ROOTS_OF_WORK = {"lin_session": ["Session::ask", "Session::apply"]}
 # That a list of events is linearizable.
-CORE = ("lin_orders.specs.Linearizable", "IsLinearizable")
+CORE = ("lin_order.specs.Linearizable", "IsLinearizable")
 USE = re.compile(r"(?:ghost )?use Rattle\.([\w.]+?)(?:\.\{(.*)\}| as (\S+?))?;?\s*(?:--.*)?$")
 HEAD = re.compile(r" *((?:abbrev|unfoldable|pub|record|data) )*([^\s:(){}]+)")
 NAME = re.compile(r"(?<![\w.\])}'])[^\W\d][\w'-]*(?:\.[^\W\d][\w'-]*)*")

@@ -19,7 +19,7 @@ TABLE = "docs/CRATES.md"
 PAGES = (TABLE, "README.md")
 HEAD = "| Crate | What it is | It may know of | The contract that the layer above uses |\n|---|---|---|---|\n"
 # The heads of the columns, with the crates on top of each, and how many names a line has.
-COLUMNS = {"bytes to events": (["lin_reading"], 1), "decided": (["lin_session"], 3), "told": (["lin_json", "lin_draw"], 2)}
+COLUMNS = {"bytes to events": (["lin_formats"], 1), "decided": (["lin_session"], 3), "told": (["lin_json", "lin_draw"], 2)}
 
 
 def read(file):

@@ -1,7 +1,7 @@
 #!/usr/bin/env python3
 """Sees that all that says which version this is, and with which kit it is proved, says the same.
 
-The number is that of the program (crates/lin_line/src/version.rt), and of the first entry of CHANGELOG.md, whose numbers fall. Of a kit's line only the
+The number is that of the program (crates/lin_program/src/version.rt), and of the first entry of CHANGELOG.md, whose numbers fall. Of a kit's line only the
 logic has to be the same, which decides what is proved: that of the program's line, of README.md's, of docs/PROOF.md's and built/OF's, and of what
 `rt version` prints, where rt is there. That lines with another number and the same logic are taken, and others aren't, is tried by an rt that prints
 made-up ones. LINCHECK in the environment names a program that has to print the number and the line.
@@ -55,7 +55,7 @@ def made_up(logic):
 
 
 def main():
-    number, kit = re.search(r'"(\d+\.\d+\.\d+)\\n([^"]+)"', text_of("crates/lin_line/src/version.rt")).groups()
+    number, kit = re.search(r'"(\d+\.\d+\.\d+)\\n([^"]+)"', text_of("crates/lin_program/src/version.rt")).groups()
     logic = logic_of(kit)
     entries = [tuple(map(int, it.split("."))) for it in re.findall(r"(?m)^## (\d+\.\d+\.\d+)$", text_of("CHANGELOG.md"))]
     seen = {
