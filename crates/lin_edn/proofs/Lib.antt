@@ -11,6 +11,7 @@ pub mod Forth
 pub mod Inner
 pub mod ItemEnds
 pub mod Fronts
+pub mod Lanes
 pub mod Later
 pub mod Limit
 pub mod Nesting
@@ -18,6 +19,8 @@ pub mod Only
 pub mod Order
 pub mod Rows
 pub mod Runs
+pub mod Same
+pub mod Segments
 pub mod Simple
 pub mod Sizes
 pub mod Skims

@@ -5,6 +5,7 @@ pub mod Reading
 pub mod Rows
 pub mod Run
 pub mod Scans
+pub mod Segments
 pub mod Simple
 pub mod Skimming
 pub mod Value

@@ -1,3 +1,4 @@
+pub mod Lanes
 pub mod Levels
 pub mod Machine
 pub mod Numbers

@@ -18,6 +18,7 @@ mod reader;
 mod run;
 mod scan;
 mod series;
+mod shapes;
 mod skim;
 
 pub use crate::found::{run_until, tag_until, text_until, white_until};
@@ -26,6 +27,7 @@ pub use crate::nested::nested_until;
 pub use crate::reader::window;
 pub use crate::run::{integer, run_element};
 pub use crate::series::{Inside, Series};
+pub use crate::shapes::{LANES, Segment, digits_until};
 pub use crate::skim::Skim;
 pub use lin_bytes::{is_stop, text_end};
 use std::alloc::{AllocError, Global};

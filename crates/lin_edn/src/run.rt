@@ -1,6 +1,6 @@
 //! What a run of bytes spells.
 
-ghost use Rattle.std.specs.Prelude.{◌≡◌, ℕ, ◌≤◌, ◌<◌, ◌^◌, length, Option, Some, None, is_some, nat_le, if◌then◌else◌, false};
+ghost use Rattle.std.specs.Prelude.{◌≡◌, ℕ, ◌≤◌, ◌<◌, ◌^◌, length, Option, Some, None, IfSome, pos, is_some, nat_le, if◌then◌else◌, false};
 ghost use Rattle.lin_edn.specs.Run as run;
 ghost use Rattle.lin_bytes.specs.Bytes as bytes;
 ghost use Rattle.lin_edn.specs.View.{view};
@@ -49,7 +49,31 @@ fn is_keyword(text: &[u8]) -> bool
 }
 
 /// The integer of 64 bits that a run spells, if it spells one.
+#[inline(always)]
 pub fn integer(text: &[u8]) -> Option<i64>
+    ensures { result ≡ run.integer text.now }
+{
+    // Most have one digit.
+    match digit_in(text) {
+        Some(digit) => Some(digit as i64),
+        None => long_integer(text),
+    }
+}
+
+/// The number that a run of one digit spells.
+#[inline(always)]
+fn digit_in(text: &[u8]) -> Option<u8>
+    ensures { IfSome result (λ digit. Some (pos digit) ≡ run.integer text.now) }
+{
+    match text {
+        [byte] if byte.is_ascii_digit() => Some(*byte - b'0'),
+        _ => None,
+    }
+}
+
+/// The integer that a run of any length spells.
+#[inline(never)]
+fn long_integer(text: &[u8]) -> Option<i64>
     ensures { result ≡ run.integer text.now }
 {
     let digits = unmarked(unsigned(text));

@@ -118,19 +118,19 @@ under_placed s levels x es k v old new p used put placed here =
     subst (λ l. IsPlaced s levels l new) (sym (under_more x es k v)) (placed_more s levels (under x (entries_of es)) (is_word x k) old new p v used put placed here)
 
 -- the row of an entry more
-row_more : (s : List ℕ) (start from until at used levels : ℕ) (es : List (Value × Value)) (k v : Value) →
-    Row levels (start + 1) (drop (start + 1) s) (in_turn es) from (drop from s) → ((n : ℕ) → Element n from (drop from s) k until (drop until s)) →
-    ((n p : ℕ) (t : List ℕ) (vs : List Value) → Row n p t vs until (drop until s) → Row n p t vs at (drop at s)) →
+row_more : (s : List ℕ) (start from at used levels : ℕ) (es : List (Value × Value)) (k v : Value) →
+    Row levels (start + 1) (drop (start + 1) s) (in_turn es) from (drop from s) →
+    ((n o : ℕ) (t : List ℕ) (vs : List Value) → Row n o t vs from (drop from s) → Row n o t (vs ++ k ∷ []) at (drop at s)) →
     Element levels at (drop at s) v used (drop used s) → Row levels (start + 1) (drop (start + 1) s) (in_turn (es ++ (k, v) ∷ [])) used (drop used s)
-row_more s start from until at used levels es k v row key whites here =
+row_more s start from at used levels es k v row front here =
     subst (λ l. Row levels (start + 1) (drop (start + 1) s) l used (drop used s)) (turn_more es k v)
-    (element (whites levels (start + 1) (drop (start + 1) s) (in_turn es ++ k ∷ []) (element row (key levels))) here)
+    (element (front levels (start + 1) (drop (start + 1) s) (in_turn es) row) here)
 
-pub entry_more : (s : List ℕ) (start from until at used levels : ℕ) (p : Extent) (k v : Value) (old new : ValueExtents) → p.at ≡ at → IsUpTo s start levels from old →
-    ((n : ℕ) → Element n from (drop from s) k until (drop until s)) →
-    ((n p : ℕ) (t : List ℕ) (vs : List Value) → Row n p t vs until (drop until s) → Row n p t vs at (drop at s)) →
+-- an entry whose key comes next, with blanks round it
+pub entry_behind : (s : List ℕ) (start from at used levels : ℕ) (p : Extent) (k v : Value) (old new : ValueExtents) → p.at ≡ at → IsUpTo s start levels from old →
+    ((n o : ℕ) (t : List ℕ) (vs : List Value) → Row n o t vs from (drop from s) → Row n o t (vs ++ k ∷ []) at (drop at s)) →
     IsValueAt s levels p v used → IsAdded old k p new → IsUpTo s start levels used new
-entry_more s start from until at used levels p k v old new there upto key whites here added =
+entry_behind s start from at used levels p k v old new there upto front here added =
     let es = upto.0 in
     let are = upto.1 in (
       es ++ (k, v) ∷ [],
@@ -140,8 +140,15 @@ entry_more s start from until at used levels p k v old new there upto key whites
         function = under_placed s levels (codes ":f") es k v old.function new.function p used added.function are.function here;
         values = under_placed s levels (codes ":value") es k v old.value new.value p used added.values are.values here;
       },
-      row_more s start from until at used levels es k v upto.2 key whites (subst (λ i. Element levels i (drop i s) v used (drop used s)) there here.0),
+      row_more s start from at used levels es k v upto.2 front (subst (λ i. Element levels i (drop i s) v used (drop used s)) there here.0),
     )
+
+pub entry_more : (s : List ℕ) (start from until at used levels : ℕ) (p : Extent) (k v : Value) (old new : ValueExtents) → p.at ≡ at → IsUpTo s start levels from old →
+    ((n : ℕ) → Element n from (drop from s) k until (drop until s)) →
+    ((n p : ℕ) (t : List ℕ) (vs : List Value) → Row n p t vs until (drop until s) → Row n p t vs at (drop at s)) →
+    IsValueAt s levels p v used → IsAdded old k p new → IsUpTo s start levels used new
+entry_more s start from until at used levels p k v old new there upto key whites here added =
+    entry_behind s start from at used levels p k v old new there upto (λ n o t vs row. whites n o t (vs ++ k ∷ []) (element row (key n))) here added
 
 -- blanks more
 pub blanks_more : (s : List ℕ) (start from at levels : ℕ) (ps : ValueExtents) → IsUpTo s start levels from ps →

@@ -1,5 +1,5 @@
 -- Usual maps: the events that they say.
-use Rattle.std.proofs.Common.{◌≡◌, ℕ, pos, ◌<◌, ◌≤◌, Bool, true, false, if◌then◌else◌, List, [], ◌∷◌, Option, Some, None, Ok, drop, option_map, option_and_then, codes, refl, sym, ap, subst, ◌∙◌, arith}
+use Rattle.std.proofs.Common.{◌≡◌, ℕ, ℤ, pos, ◌<◌, ◌≤◌, Bool, true, false, if◌then◌else◌, List, [], ◌∷◌, Option, Some, None, Ok, drop, option_map, option_and_then, codes, refl, sym, ap, subst, ◌∙◌, arith}
 use Rattle.std.proofs.lemmas.Option.{none-some}
 use Rattle.std.specs.List.{list_any, slice_range}
 use Rattle.lin_bytes.specs.Bytes.{is_newline}
@@ -13,6 +13,8 @@ use Rattle.lin_history.specs.Reading.{Reading}
 use Rattle.lin_history.specs.Table.{bare, under, cas_of, body_of, is_several, is_by_keyword, or_nil, event, event_under, event_with, said_of, item_of, val_of, pair_of, seen, parts_said, process_of, type_of, function_of}
 use Rattle.lin_history.specs.inner.Usual.{IsPair, IsPlaced, ArePlaced, AreParts, TellSame, TellsWith}
 use Rattle.lin_history.specs.inner.Fields.{plain_of, item_value, value_of}
+use Rattle.lin_history.specs.inner.Small.{number_said, number_value, small_body}
+use Rattle.lin_history.specs.declared.small.Deed.{Deed}
 use Rattle.lin_events.specs.declared.calls.Call.TheVariants as call
 use Rattle.lin_events.specs.declared.calls.Name.{Name}
 use Rattle.lin_events.specs.declared.calls.Name.TheVariants.{Read, Write, Cas, Enqueue, Dequeue, Add, Acquire, Release}
@@ -218,4 +220,19 @@ tells_same m n t f vs key v told same parts tells = (
   λ a b d process type function. event_is m a b d vs v n t f key process type function parts ∙ ap (with_body n (numbered m.number key)) (same m v nil)
       ∙ sym (event_is m a b d (valueless m.keyed key) nil n t f key process type function (valueless_parts m.keyed vs key v parts))
       ∙ tells.1 a b d process type function,
+)
+
+number_is : (value : Option ℤ) → value_of (option_map number_said value) ≡ number_value value
+number_is None = refl
+number_is (Some i) = refl
+
+-- a map that holds nil or a number at most tells what few bytes hold
+pub numbers_tell : (m : Reading) (n : ℕ) (t : EventType) (f : Name) (vs : List Value) (key : Spelled) (p : Option Spelled) (value : Option ℤ) (deed : Deed) (e : Event) →
+    p ≡ option_map number_said value → body_of m t f (number_value value) ≡ Some (small_body deed) →
+    e ≡ record { process = n; key = numbered m.number key; body = small_body deed } → AreParts m.keyed vs key (value_of p) → TellsWith m n t f vs (Some e)
+numbers_tell m n t f vs key p value deed e is body there parts = (
+  parts.0,
+  λ a b d process type function. event_is m a b d vs (value_of p) n t f key process type function parts
+      ∙ ap (λ v. with_body n (numbered m.number key) (body_of m t f v)) (ap value_of is ∙ number_is value) ∙ ap (with_body n (numbered m.number key)) body
+      ∙ ap (λ o. Ok (Some o)) (sym there),
 )

@@ -1,4 +1,5 @@
 pub mod Fields
 pub mod Reads
+pub mod Small
 pub mod Usual
 pub mod Rests

@@ -14,9 +14,12 @@ ghost use Rattle.lin_history.specs.inner.Rests.{IsWhole, IsWholeRow, IsUnaware, 
 ghost use Rattle.lin_events.specs.declared.events.Event.{Event as TheEvent};
 ghost use Rattle.lin_history.specs.declared.follow.FollowFault.{FollowFault as TheFault};
 
-use crate::row::{Far, Row, begin_row, put_all, put_event, read_maps, tell_one, whole_row};
+use crate::outlines::Means;
+use crate::row::{
+    Far, Row, begin_row, put_all, put_event, put_small, read_maps, tell_one, whole_row,
+};
 use crate::table::{EventFault, bare};
-use crate::usual::{LEVELS, next_usual};
+use crate::usual::{LEVELS, next_small, next_usual};
 use lin_edn::{
     Edn, EdnCause, Next, Skim, blanks_are_skipped, blanks_in_front, more_bytes, next_element,
     places, readings_are_unique,
@@ -65,8 +68,7 @@ pub struct Follow {
 /// What is known of the bytes that are held without reading them again.
 #[derive(Drop)]
 struct Rest {
-    // Where memory comes from.
-    alloc: Global,
+    means: Means,
     skim: Skim,
     // Whether the skim has seen just the bytes that are held.
     is_seen: bool,
@@ -100,7 +102,7 @@ impl Follow {
             passed: 0,
             held: Vec::new(alloc),
             rest: Rest {
-                alloc,
+                means: Means::new(alloc),
                 skim: Skim::new(),
                 is_seen: true,
                 row: None,
@@ -126,7 +128,7 @@ impl Follow {
     pub fn take_all(&mut self) -> Vec<Event>
         ensures { TakesAll self.old self.new result.items }
     {
-        mem::replace(&mut self.ready, VecDeque::new(self.rest.alloc)).into_vec()
+        mem::replace(&mut self.ready, VecDeque::new(self.rest.means.alloc)).into_vec()
     }
 
     /// Whether the stream may end here: `Truncated` in an unfinished element or discard, else the fault that stands, if any.
@@ -256,7 +258,7 @@ fn read_held(
             }
             let read = resting(rest, held, passed);
             if piece.len() == held.len() {
-                rest.row = begin_row(rest.alloc, held);
+                rest.row = begin_row(rest.means.alloc, held);
             }
             Ok(read)
         }
@@ -283,10 +285,10 @@ fn read_in(
         IsReadHeld m held.now passed ready.old.items ready.new.items rest.new.row r) }
 {
     rest.is_seen = false;
-    match read_maps(rest.alloc, keyed, held, &mut row, names)? {
+    match read_maps(&mut rest.means, keyed, held, &mut row, names)? {
         Far::Closed(used) => {
             let whole = Whole { row, used };
-            let read = close(rest.alloc, keyed, passed, held, whole, ready, names)?;
+            let read = close(&mut rest.means, keyed, passed, held, whole, ready, names)?;
             look_at(rest, &held[read.used..]);
             Ok(read)
         }
@@ -321,14 +323,14 @@ fn read_anew(
     ensures held { IsHeld held.now rest.new result }
     ensures read { IfOk result (λ r. (m : Reading) → IsReading keyed names.new m → IsReadHeld m held.now passed ready.old.items ready.new.items rest.new.row r) }
 {
-    let read = read_on(rest.alloc, keyed, held, passed, ready, names)?;
+    let read = read_on(&mut rest.means, keyed, held, passed, ready, names)?;
     look_at(rest, &held[read.used..]);
     Ok(read)
 }
 
 /// Tells a list or vector that is whole, and reads what stands behind it.
 fn close(
-    alloc: Global,
+    means: &mut Means,
     keyed: bool,
     passed: u64,
     held: &[u8],
@@ -348,7 +350,7 @@ fn close(
     match tell_row(whole.row, whole.used, passed, ready)? {
         Front::Element(used) => {
             let read = read_on(
-                alloc,
+                means,
                 keyed,
                 &held[used..],
                 passed + used as u64,
@@ -383,7 +385,7 @@ fn look_at(rest: &mut Rest, held: &[u8])
 {
     rest.skim.clear();
     rest.is_seen = rest.skim.go_on(held);
-    rest.row = begin_row(rest.alloc, held);
+    rest.row = begin_row(rest.means.alloc, held);
 }
 
 /// Whether unfinished bytes are blank: none, or a comment.
@@ -505,7 +507,32 @@ fn tell(
 /// Reads what stands in front of a text, which stands from a place of the stream on.
 #[inline(always)]
 fn read_front(
-    alloc: Global,
+    means: &mut Means,
+    keyed: bool,
+    text: &[u8],
+    place: u64,
+    ready: &mut VecDeque<Event>,
+    names: &mut Names,
+) -> Result<Front, OutOfMemory>
+    requires { place + length text.now ≤ most }
+    ensures begun { Begins names.old names.new }
+    ensures put { IsPutBehind ready.old.items ready.new.items }
+    ensures within { IfOk result (IsWithin text.now) }
+    ensures front { IfOk result (λ front. (m : Reading) → IsReading keyed names.new m → IsFront m text.now place ready.old.items ready.new.items front) }
+{
+    match next_small(means, keyed, text, 0, LEVELS) {
+        Some(small) => {
+            put_small(ready, small)?;
+            Ok(Front::Element(small.used))
+        }
+        None => read_usual(means, keyed, text, place, ready, names),
+    }
+}
+
+/// Reads what stands in front of a text, where that is no map like those before it.
+#[inline(never)]
+fn read_usual(
+    means: &mut Means,
     keyed: bool,
     text: &[u8],
     place: u64,
@@ -519,19 +546,19 @@ fn read_front(
     ensures front { IfOk result (λ front. (m : Reading) → IsReading keyed names.new m → IsFront m text.now place ready.old.items ready.new.items front) }
 {
     places();
-    match next_usual(alloc, keyed, text, 0, LEVELS, names) {
+    match next_usual(means, keyed, text, 0, LEVELS, names) {
         Some(taken) => {
             put_event(ready, taken.event)?;
             Ok(Front::Element(taken.used))
         }
-        None => read_unusual(alloc, keyed, text, place, ready, names),
+        None => read_unusual(means, keyed, text, place, ready, names),
     }
 }
 
 /// Reads what stands in front of a text, where that is no usual map. It stands apart, so that a usual map sets nothing up for it.
 #[inline(never)]
 fn read_unusual(
-    alloc: Global,
+    means: &mut Means,
     keyed: bool,
     text: &[u8],
     place: u64,
@@ -545,9 +572,9 @@ fn read_unusual(
     ensures front { IfOk result (λ front. (m : Reading) → IsReading keyed names.new m → IsFront m text.now place ready.old.items ready.new.items front) }
 {
     places();
-    match whole_row(alloc, keyed, text, names)? {
+    match whole_row(means, keyed, text, names)? {
         Some((row, used)) => tell_row(row, used, place, ready),
-        None => read_element(alloc, keyed, text, place, ready, names),
+        None => read_element(means.alloc, keyed, text, place, ready, names),
     }
 }
 
@@ -637,7 +664,7 @@ fn ends(used: usize, outcome: Result<(), FollowFault>) -> Front
 
 /// Reads a text, which stands from a place of the stream on, as far as it goes.
 fn read_on(
-    alloc: Global,
+    means: &mut Means,
     keyed: bool,
     text: &[u8],
     place: u64,
@@ -652,7 +679,7 @@ fn read_on(
 {
     let mut at = 0;
     'elements: loop {
-        match read_front(alloc, keyed, &text[at..], place + at as u64, ready, names)? {
+        match read_front(means, keyed, &text[at..], place + at as u64, ready, names)? {
             Front::Element(used) => at += used,
             Front::End(read) => {
                 return Ok(Read {

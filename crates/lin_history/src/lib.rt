@@ -3,7 +3,9 @@
 
 mod follow;
 mod next;
+mod outlines;
 mod row;
+mod small;
 mod table;
 mod usual;
 mod values;

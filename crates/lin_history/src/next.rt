@@ -2,6 +2,7 @@
 ghost use Rattle.lin_names.specs.Names.{Begins};
 ghost use Rattle.lin_history.specs.Next.{SaysEvent};
 
+use crate::outlines::Means;
 use crate::table::{EventFault, event_of};
 use crate::usual::{LEVELS, next_usual};
 use lin_edn::{EdnFault, Next, next_element};
@@ -39,7 +40,7 @@ pub fn next_event(
     ensures begun { Begins names.old names.new }
     ensures says { SaysEvent keyed names.new text.now result }
 {
-    if let Some(taken) = next_usual(alloc, keyed, text, 0, LEVELS, names) {
+    if let Some(taken) = next_usual(&mut Means::alone(alloc), keyed, text, 0, LEVELS, names) {
         return Ok(NextEvent::Complete {
             said: Ok(taken.event),
             used: taken.used,

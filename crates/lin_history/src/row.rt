@@ -1,5 +1,5 @@
 //! A list or vector that is read map by map.
-ghost use Rattle.std.specs.Prelude.{◌≡◌, ◌<◌, ◌++◌, [], ◌∷◌, Bool, ℕ, List, Ok, IfOk, IfSome, OnOk, OnErr, length};
+ghost use Rattle.std.specs.Prelude.{◌≡◌, ◌<◌, ◌≤◌, ◌++◌, [], ◌∷◌, Bool, ℕ, List, Ok, IfOk, IfSome, OnOk, OnErr, length};
 ghost use Rattle.lin_edn.specs.Rows.{row_end, row_levels};
 ghost use Rattle.lin_edn.specs.Value.{Value, values_of};
 ghost use Rattle.lin_edn.specs.View.{view};
@@ -10,12 +10,16 @@ ghost use Rattle.lin_history.specs.inner.Reads.{IsTold, IsToldOn, IsPutBehind};
 ghost use Rattle.lin_history.specs.Rests.{told_of, IsBegun, IsOpen, IsOpenRow, IsWaiting};
 ghost use Rattle.lin_history.specs.inner.Rests.{IsFar, IsFarRow, IsWhole, IsWholeRow};
 ghost use Rattle.lin_history.specs.Table.{event as told_in};
+ghost use Rattle.lin_events.specs.declared.items.Item.TheVariants.{Int};
+ghost use Rattle.lin_history.specs.inner.Small.{small_body, small_event, small_taken};
 ghost use Rattle.lin_history.specs.inner.Usual.{IsTaken, events_of};
 
+use crate::outlines::Means;
+use crate::small::{Deed, Small, val_of};
 use crate::table::{EventFault, event_of};
-use crate::usual::{Taken, next_usual};
+use crate::usual::{Taken, next_small, next_usual};
 use lin_edn::{Edn, Inside, Series};
-use lin_events::{Event, OutOfMemory};
+use lin_events::{Body, Call, Event, Item, Name, OutOfMemory, Reply};
 use lin_names::Names;
 use std::alloc::Global;
 use std::collections::VecDeque;
@@ -55,7 +59,7 @@ pub(crate) fn begin_row(alloc: Global, text: &[u8]) -> Option<Row>
 /// The list or vector that a text begins with, if it is whole there, and where it ends.
 #[inline(never)]
 pub(crate) fn whole_row(
-    alloc: Global,
+    means: &mut Means,
     keyed: bool,
     text: &[u8],
     names: &mut Names,
@@ -64,10 +68,10 @@ pub(crate) fn whole_row(
     ensures row { IfOk result (λ found. IfSome found (λ r. IsWholeRow r.0 text.now r.1)) }
     ensures told { IfOk result (λ found. IfSome found (λ r. (m : Reading) → IsReading keyed names.new m → IsWhole m r.0 text.now r.1)) }
 {
-    let Some(mut row) = begin_row(alloc, text) else {
+    let Some(mut row) = begin_row(means.alloc, text) else {
         return Ok(None);
     };
-    match read_maps(alloc, keyed, text, &mut row, names)? {
+    match read_maps(means, keyed, text, &mut row, names)? {
         Far::Closed(used) => Ok(Some((row, used))),
         Far::Open(_) => Ok(None),
     }
@@ -75,7 +79,7 @@ pub(crate) fn whole_row(
 
 /// Reads on as far as maps are whole.
 pub(crate) fn read_maps(
-    alloc: Global,
+    means: &mut Means,
     keyed: bool,
     text: &[u8],
     row: &mut Row,
@@ -88,8 +92,8 @@ pub(crate) fn read_maps(
 {
     let mut more = false;
     'maps: loop {
-        match next_usual(
-            alloc,
+        match next_taken(
+            means,
             keyed,
             text,
             row.series.place(),
@@ -97,14 +101,64 @@ pub(crate) fn read_maps(
             names,
         ) {
             Some(taken) => pass_usual(row, taken)?,
-            None => match row.series.next(alloc, text) {
-                Inside::Element(element) => take_map(alloc, keyed, &element, row, names)?,
+            None => match row.series.next(means.alloc, text) {
+                Inside::Element(element) => take_map(means.alloc, keyed, &element, row, names)?,
                 Inside::Closed(used) => return Ok(Far::Closed(used)),
                 Inside::Unknown => return Ok(Far::Open(more)),
                 Inside::OutOfMemory => return Err(OutOfMemory),
             },
         }
         more = true;
+    }
+}
+
+/// The usual map behind the white from a place on, with so many levels at most.
+#[inline(always)]
+fn next_taken(
+    means: &mut Means,
+    keyed: bool,
+    text: &[u8],
+    from: usize,
+    levels: usize,
+    names: &mut Names,
+) -> Option<Taken>
+    requires { (3 ≤ levels) × (levels ≤ 64) }
+    ensures begun { Begins names.old names.new }
+    ensures taken { IfSome result (IsTaken keyed names.new text.now from levels) }
+{
+    match next_small(means, keyed, text, from, levels) {
+        Some(small) => Some(taken_of(small)),
+        None => next_usual(means, keyed, text, from, levels, names),
+    }
+}
+
+/// A small one as any other.
+#[inline(always)]
+fn taken_of(small: Small) -> Taken
+    ensures { result ≡ small_taken small }
+{
+    Taken {
+        event: Some(Event {
+            process: small.process,
+            key: Item::Int(small.key),
+            body: body_of(small.deed),
+        }),
+        used: small.used,
+    }
+}
+
+/// What a deed is in an event.
+#[inline(always)]
+fn body_of(deed: Deed) -> Body
+    ensures { result ≡ small_body deed }
+{
+    match deed {
+        Deed::Read => Body::Invoke(Call::Read),
+        Deed::Write(value) => Body::Invoke(Call::Write(val_of(value))),
+        Deed::Saw(value) => Body::Ok(Name::Read, Reply::Value(val_of(value))),
+        Deed::Wrote => Body::Ok(Name::Write, Reply::Done),
+        Deed::Failed(name) => Body::Fail(name),
+        Deed::Unknown(name) => Body::Info(name),
     }
 }
 
@@ -227,6 +281,56 @@ pub(crate) fn put_event(
     match event {
         Some(event) => put_back(ready, event),
         None => Ok(()),
+    }
+}
+
+/// Puts the event of a process and a key behind those that are ready; refused, they are as they were.
+#[inline(always)]
+fn put_numbers(
+    ready: &mut VecDeque<Event>,
+    process: u64,
+    key: i64,
+    body: Body,
+) -> Result<(), OutOfMemory>
+    ensures ok { OnOk result (ready.new.items ≡ ready.old.items ++ record { process = process; key = Int key; body = body } ∷ []) }
+    ensures err { OnErr result (ready.new.items ≡ ready.old.items) }
+{
+    put_back(
+        ready,
+        Event {
+            process,
+            key: Item::Int(key),
+            body,
+        },
+    )
+}
+
+/// Puts an event of numbers alone behind those that are ready; refused, they are as they were. It is made in each arm and put there at
+/// once, so that no part of it is carried from one place to another.
+#[inline(always)]
+pub(crate) fn put_small(ready: &mut VecDeque<Event>, small: Small) -> Result<(), OutOfMemory>
+    ensures ok { OnOk result (ready.new.items ≡ ready.old.items ++ small_event small ∷ []) }
+    ensures err { OnErr result (ready.new.items ≡ ready.old.items) }
+{
+    let process = small.process;
+    let key = small.key;
+    match small.deed {
+        Deed::Read => put_numbers(ready, process, key, Body::Invoke(Call::Read)),
+        Deed::Write(value) => put_numbers(
+            ready,
+            process,
+            key,
+            Body::Invoke(Call::Write(val_of(value))),
+        ),
+        Deed::Saw(value) => put_numbers(
+            ready,
+            process,
+            key,
+            Body::Ok(Name::Read, Reply::Value(val_of(value))),
+        ),
+        Deed::Wrote => put_numbers(ready, process, key, Body::Ok(Name::Write, Reply::Done)),
+        Deed::Failed(name) => put_numbers(ready, process, key, Body::Fail(name)),
+        Deed::Unknown(name) => put_numbers(ready, process, key, Body::Info(name)),
     }
 }
 

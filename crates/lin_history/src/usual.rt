@@ -2,7 +2,9 @@
 //!
 //! What is inlined here keeps a map's event in registers up to where it is put. An event that is handed on in memory is written in
 //! parts and read whole, for which a processor waits: that took a tenth of the time of reading.
-ghost use Rattle.std.specs.Prelude.{◌≡◌, ℕ, Bool, pos, suc, ◌<◌, ◌≤◌, true, false, None, Some, Ok, IfSome, List, length, slice_index, [], ◌∷◌};
+ghost use Rattle.std.specs.Prelude.{◌≡◌, ℕ, Bool, pos, suc, ◌<◌, ◌≤◌, true, false, None, Some, Ok, IfSome, List, length, drop, slice_index, [], ◌∷◌};
+ghost use Rattle.std.specs.List.{slice_range};
+ghost use Rattle.lin_edn.specs.Grammar.{Element, IsTagAt, Row, ShortBlanks};
 ghost use Rattle.lin_edn.specs.Run.{run_value};
 ghost use Rattle.lin_edn.specs.Value as value;
 ghost use Rattle.lin_edn.specs.Value.{Value, Entries};
@@ -12,17 +14,20 @@ ghost use Rattle.lin_names.specs.Spelled.{seen};
 ghost use Rattle.lin_names.specs.declared.said.Said.TheVariants as said;
 ghost use Rattle.lin_history.specs.Reading.{Reading, IsReading};
 ghost use Rattle.lin_history.specs.inner.Fields.{given_view, plain_view, value_of};
-ghost use Rattle.lin_history.specs.Table.{body_of, event};
-ghost use Rattle.lin_history.specs.inner.Usual.{AreParts, ArePlaced, IsAdded, IsPlaced, IsProcess, IsValueAt, IsUpTo, IsMapAt, IsTaken, TellsWith};
+ghost use Rattle.lin_history.specs.Table.{body_of, event, is_by_keyword};
+ghost use Rattle.lin_history.specs.inner.Small.{small_event as event_of_small, small_taken};
+ghost use Rattle.lin_history.specs.inner.Usual.{AreParts, IsKeyOf, ArePlaced, IsAdded, IsPlaced, IsProcess, IsValueAt, IsUpTo, IsMapAt, IsTaken, TellsWith};
 
+use crate::outlines::Means;
+use crate::small::{Small, deed_of, number_in, small_with};
 use crate::table::{
     EventType, Given, Plain, event_said, function_named, is_keyword, is_same, is_value_told,
     process_number, type_named,
 };
 use crate::values::{pair_at, pair_key, plain_in, plain_pair, string_at, value_at};
 use lin_edn::{
-    Edn, elements_are_unique, integer, nested_until, run_element, run_until, tag_until,
-    white_until, window,
+    Edn, digits_until, elements_are_unique, integer, nested_until, run_element, run_until,
+    tag_until, white_until, window,
 };
 use lin_events::{Event, Name};
 use lin_names::{Names, Said};
@@ -43,18 +48,37 @@ pub(crate) struct Taken {
 
 /// Where a value begins, and where the run there ends: where it begins, if the value is no run.
 #[derive(Clone, Copy)]
-struct Extent {
-    at: usize,
-    until: usize,
+pub(crate) struct Extent {
+    pub at: usize,
+    pub until: usize,
 }
 
 /// The values of the keys that count.
 #[derive(Clone, Copy)]
-struct ValueExtents {
-    process: Option<Extent>,
-    event_type: Option<Extent>,
-    function: Option<Extent>,
-    value: Option<Extent>,
+pub(crate) struct ValueExtents {
+    pub process: Option<Extent>,
+    pub event_type: Option<Extent>,
+    pub function: Option<Extent>,
+    pub value: Option<Extent>,
+}
+
+/// No places yet.
+pub(crate) const NOWHERE: ValueExtents = ValueExtents {
+    process: None,
+    event_type: None,
+    function: None,
+    value: None,
+};
+
+/// What a key of a map is the key of.
+#[derive(Clone, Copy)]
+pub(crate) enum Field {
+    Process,
+    EventType,
+    Function,
+    Value,
+    /// Something that tells nothing.
+    Other,
 }
 
 /// What a map says besides the key and the value, where it is an event.
@@ -84,34 +108,64 @@ fn put(slot: &mut Option<Extent>, place: Extent) -> bool
     true
 }
 
-/// Keeps the value of a key that counts, unless one stands there.
-fn keep(places: &mut ValueExtents, key: &[u8], place: Extent) -> bool
-    ensures { result ≡ true → (p : ℕ) → IsAdded places.old (run_value p key.now) place places.new }
+/// Which field a key is of.
+pub(crate) fn field_named(key: &[u8]) -> Field
+    ensures { IsKeyOf result key.now }
 {
     if is_same(key, b":process") {
-        return put(&mut places.process, place);
+        return Field::Process;
     }
     if is_same(key, b":type") {
-        return put(&mut places.event_type, place);
+        return Field::EventType;
     }
     if is_same(key, b":f") {
-        return put(&mut places.function, place);
+        return Field::Function;
     }
     if is_same(key, b":value") {
-        return put(&mut places.value, place);
+        return Field::Value;
     }
-    true
+    Field::Other
+}
+
+/// Keeps the value of a field that counts, unless one stands there.
+#[inline(always)]
+pub(crate) fn keep(places: &mut ValueExtents, field: Field, place: Extent) -> bool
+    ensures { result ≡ true → (key : List ℕ) → IsKeyOf field key → (p : ℕ) → IsAdded places.old (run_value p key) place places.new }
+{
+    match field {
+        Field::Process => put(&mut places.process, place),
+        Field::EventType => put(&mut places.event_type, place),
+        Field::Function => put(&mut places.function, place),
+        Field::Value => put(&mut places.value, place),
+        Field::Other => true,
+    }
+}
+
+/// Where the run at a place ends; that place where none stands there. Short numbers are most of what maps hold.
+#[inline(always)]
+fn word_until(text: &[u8], at: usize, end: usize) -> usize
+    requires begun { at ≤ end }
+    requires inside { end ≤ length text.now }
+    ensures within { (at ≤ result) × (result ≤ end) }
+    ensures run { at < result → (n : ℕ) → Element n at (drop at text.now) (run_value at (slice_range text.now at result)) result (drop result text.now) }
+{
+    let until = digits_until(text, at, end);
+    if until > at {
+        return until;
+    }
+    run_until(text, at, end)
 }
 
 /// The usual value at a place, with so many levels at most, and where it ends; that place where none stands there.
-fn usual_value(text: &[u8], at: usize, end: usize, levels: usize) -> (Extent, usize)
+#[inline(always)]
+pub(crate) fn usual_value(text: &[u8], at: usize, end: usize, levels: usize) -> (Extent, usize)
     requires begun { at ≤ end }
     requires inside { end ≤ length text.now }
     ensures at { result.0.at ≡ at }
     ensures within { (at ≤ result.1) × (result.1 ≤ end) }
     ensures value { at < result.1 → (v : Value) × IsValueAt text.now levels result.0 v result.1 }
 {
-    let until = run_until(text, at, end);
+    let until = word_until(text, at, end);
     let place = Extent { at, until };
     if until > at {
         return (place, until);
@@ -142,7 +196,7 @@ fn take_entry(
     if used == at {
         return from;
     }
-    if !keep(places, &text[from..until], place) {
+    if !keep(places, field_named(&text[from..until]), place) {
         return from;
     }
     used
@@ -150,19 +204,19 @@ fn take_entry(
 
 /// The usual map whose opening byte stands at a place, with so many levels inside at most, and where it ends.
 #[inline(never)]
-fn usual_map(text: &[u8], from: usize, end: usize, levels: usize) -> Option<(ValueExtents, usize)>
+pub(crate) fn usual_map(
+    text: &[u8],
+    from: usize,
+    end: usize,
+    levels: usize,
+) -> Option<(ValueExtents, usize)>
     requires begun { from < end }
     requires inside { end ≤ length text.now }
     requires opens { slice_index text.now from ≡ 123 }
     ensures within { IfSome result (λ r. (from < r.1) × (r.1 ≤ end)) }
     ensures map { IfSome result (λ r. IsMapAt text.now from levels r.0 r.1) }
 {
-    let mut places = ValueExtents {
-        process: None,
-        event_type: None,
-        function: None,
-        value: None,
-    };
+    let mut places = NOWHERE;
     let mut at = white_until(text, from + 1, end);
     while at < end {
         if text[at] == b'}' {
@@ -190,6 +244,14 @@ fn word_of<'a>(text: &'a [u8], place: Extent) -> Option<&'a [u8]>
     Some(&text[place.at..place.until])
 }
 
+/// Whether a word that begins at a place is a keyword. It stands apart, so that numbers set nothing up for it.
+#[inline(never)]
+fn is_name(at: usize, word: &[u8]) -> bool
+    ensures { result ≡ is_by_keyword (run_value at word.now ∷ []) }
+{
+    is_keyword(&run_element(at, word))
+}
+
 /// The process that a word says, which begins at a place.
 #[inline(always)]
 fn process_in(at: usize, word: &[u8]) -> Option<Process>
@@ -198,7 +260,7 @@ fn process_in(at: usize, word: &[u8]) -> Option<Process>
     if let Some(number) = integer(word) {
         return Some(Process::Number(process_number(number)?));
     }
-    if is_keyword(&run_element(at, word)) {
+    if is_name(at, word) {
         return Some(Process::Named);
     }
     None
@@ -378,6 +440,26 @@ fn usual_event(
     Some(told)
 }
 
+/// A usual map that ends at a place, if its event is one of numbers alone.
+#[inline(always)]
+fn small_event(keyed: bool, text: &[u8], places: ValueExtents, used: usize) -> Option<Small>
+    ensures used { IfSome result (λ small. small.used ≡ used) }
+    ensures told { IfSome result (λ small. (m : Reading) → m.keyed ≡ keyed → (levels : ℕ) (es : Entries) → levels ≤ 64 → ArePlaced text.now levels es places →
+        event m (value.map es) ≡ Ok (Some (event_of_small small))) }
+{
+    let place = places.process?;
+    let process = match process_in(place.at, word_of(text, place)?)? {
+        Process::Number(number) => number,
+        Process::Named => return None,
+    };
+    let event_type = type_named(word_of(text, places.event_type?)?)?;
+    let name = function_named(word_of(text, places.function?)?)?;
+    let (key, plain) = plain_parts(keyed, text, places.value)?;
+    let deed = deed_of(event_type, name, number_in(plain)?)?;
+    let small = small_with(process, key, deed, used)?;
+    Some(small)
+}
+
 /// How many of some levels are left in a map, where a tag stands in front of it from a place on, or none.
 fn levels_inside(from: usize, begun: usize, levels: usize) -> usize
     requires { 3 ≤ levels }
@@ -388,11 +470,83 @@ fn levels_inside(from: usize, begun: usize, levels: usize) -> usize
     if from < begun { levels - 2 } else { levels - 1 }
 }
 
+/// The usual map whose opening byte stands at a place, with so many levels inside at most, and where it ends; found by what the maps
+/// before it were like, if it can be.
+#[inline(always)]
+fn map_at(
+    means: &mut Means,
+    text: &[u8],
+    from: usize,
+    end: usize,
+    levels: usize,
+) -> Option<(ValueExtents, usize)>
+    requires begun { from < end }
+    requires inside { end ≤ length text.now }
+    requires opens { slice_index text.now from ≡ 123 }
+    ensures within { IfSome result (λ r. (from < r.1) × (r.1 ≤ end)) }
+    ensures map { IfSome result (λ r. IsMapAt text.now from levels r.0 r.1) }
+{
+    let found = means.find(text, from, end, levels);
+    if found.is_some() {
+        return found;
+    }
+    let found = usual_map(text, from, end, levels)?;
+    means.keep(text, from, end);
+    Some(found)
+}
+
+/// Where a map begins behind the white from a place on, with its tag if one stands directly in front of it, and where it is opened.
+#[inline(always)]
+fn map_opened(text: &[u8], from: usize, end: usize) -> Option<(usize, usize)>
+    requires begun { from ≤ end }
+    requires inside { end ≤ length text.now }
+    ensures within { IfSome result (λ r. (from ≤ r.0) × (r.0 ≤ r.1) × (r.1 < end)) }
+    ensures opens { IfSome result (λ r. slice_index text.now r.1 ≡ 123) }
+    ensures short { IfSome result (λ r. ShortBlanks text.now from (drop from text.now) → ShortBlanks text.now r.0 (drop r.0 text.now)) }
+    ensures row { IfSome result (λ r. (n : ℕ) (p : ℕ) (s : List ℕ) (vs : List Value) →
+        Row n p s vs from (drop from text.now) → Row n p s vs r.0 (drop r.0 text.now)) }
+    ensures tag { IfSome result (λ r. r.0 < r.1 → IsTagAt text.now r.0 r.1) }
+{
+    let at = white_until(text, from, end);
+    let begun = tag_until(text, at, end);
+    if begun == end {
+        return None;
+    }
+    if text[begun] != b'{' {
+        return None;
+    }
+    Some((at, begun))
+}
+
+/// The usual map behind the white from a place on that has the outline of an earlier one, with so many levels at most, if its event is
+/// one of numbers alone.
+#[inline(always)]
+pub(crate) fn next_small(
+    means: &Means,
+    keyed: bool,
+    text: &[u8],
+    from: usize,
+    levels: usize,
+) -> Option<Small>
+    requires { (3 ≤ levels) × (levels ≤ 64) }
+    ensures { IfSome result (λ small. (names : List (List ℕ)) → IsTaken keyed names text.now from levels (small_taken small)) }
+{
+    let end = window(0, text.len());
+    if from >= end {
+        return None;
+    }
+    let (at, begun) = map_opened(text, from, end)?;
+    let inside = levels_inside(at, begun, levels);
+    let (places, used) = means.find(text, begun, end, inside)?;
+    let small = small_event(keyed, text, places, used)?;
+    Some(small)
+}
+
 /// The usual map, with a tag directly in front of it or none, behind the white from a place on, among the bytes that the first element of a text can have;
 /// with so many levels at most.
-#[inline(always)]
+#[inline(never)]
 pub(crate) fn next_usual(
-    alloc: Global,
+    means: &mut Means,
     keyed: bool,
     text: &[u8],
     from: usize,
@@ -407,16 +561,9 @@ pub(crate) fn next_usual(
     if from >= end {
         return None;
     }
-    let at = white_until(text, from, end);
-    let begun = tag_until(text, at, end);
-    if begun == end {
-        return None;
-    }
-    if text[begun] != b'{' {
-        return None;
-    }
+    let (at, begun) = map_opened(text, from, end)?;
     let inside = levels_inside(at, begun, levels);
-    let (places, used) = usual_map(text, begun, end, inside)?;
-    let event = usual_event(alloc, keyed, text, places, names)?;
+    let (places, used) = map_at(means, text, begun, end, inside)?;
+    let event = usual_event(means.alloc, keyed, text, places, names)?;
     Some(Taken { event, used })
 }

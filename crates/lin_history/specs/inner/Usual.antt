@@ -2,6 +2,7 @@
 use Rattle.std.specs.Prelude.{◌≡◌, ℕ, suc, ◌+◌, ◌<◌, ◌≤◌, Bool, true, false, List, [], ◌∷◌, length, drop, Option, Some, None, Ok, codes}
 use Rattle.lin_edn.specs.Grammar.{Element, Row, ShortBlanks, longest}
 use Rattle.std.specs.List.{slice_range}
+use Rattle.std.specs.Str.{bytes_eq}
 use Rattle.lin_bytes.specs.Bytes.{Kind, a_set, a_vector}
 use Rattle.lin_edn.specs.Run.{run_value}
 use Rattle.lin_edn.specs.Value.{Value, vector, map, Entries, values_of, entries_of}
@@ -10,6 +11,8 @@ use Rattle.lin_history.specs.Reading.{Reading, IsReading}
 use Rattle.lin_history.specs.Table.{bare, is_word, under, process_of, type_of, function_of, body_of, said_of, parts_said, or_nil, is_several, is_by_keyword, event, event_with}
 use Rattle.lin_events.specs.declared.calls.Name.{Name}
 use Rattle.lin_history.specs.declared.table.EventType.{EventType}
+use Rattle.lin_history.specs.declared.usual.Field.{Field}
+use Rattle.lin_history.specs.declared.usual.Field.TheVariants as field
 use Rattle.lin_history.specs.declared.usual.Extent.{Extent}
 use Rattle.lin_history.specs.declared.usual.ValueExtents.{ValueExtents}
 use Rattle.lin_history.specs.declared.usual.Process.{Process}
@@ -59,6 +62,15 @@ pub record ArePlaced (s : List ℕ) (levels : ℕ) (es : Entries) (ps : ValueExt
   pub types : IsPlaced s levels (under (codes ":type") es) ps.event_type
   pub function : IsPlaced s levels (under (codes ":f") es) ps.function
   pub values : IsPlaced s levels (under (codes ":value") es) ps.value
+
+-- a key is that of a field
+abbrev pub IsKeyOf : Field → List ℕ → Type 0
+IsKeyOf field.Process key = bytes_eq key (codes ":process") ≡ true
+IsKeyOf field.EventType key = bytes_eq key (codes ":type") ≡ true
+IsKeyOf field.Function key = bytes_eq key (codes ":f") ≡ true
+IsKeyOf field.Value key = bytes_eq key (codes ":value") ≡ true
+IsKeyOf field.Other key = (bytes_eq key (codes ":process") ≡ false) × (bytes_eq key (codes ":type") ≡ false)
+    × (bytes_eq key (codes ":f") ≡ false) × (bytes_eq key (codes ":value") ≡ false)
 
 -- a place is kept where none was, if the key is the one that counts
 abbrev pub IsPut : Bool → Option Extent → Extent → Option Extent → Type 0

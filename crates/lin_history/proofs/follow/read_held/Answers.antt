@@ -43,7 +43,7 @@ returns-then-piece-held-clause-held c =
     let known = c.requires.known in
     let goes = held_goes_on c.go_on.new.rest known.0 c.args.piece.now c.args.held.now c.go_on.result known.1 c.if-not-go_on.false (c.go_on.ensures.seen known.0 known.2.0) in (
       (rw c.resting-read.ensures.used (omega arith)),
-      subst (λ n. Knows (record { alloc = c.go_on.new.rest.alloc; skim = c.go_on.new.rest.skim; is_seen = c.go_on.new.rest.is_seen; row = c.begin_row.result }) (drop n c.args.held.now))
+      subst (λ n. Knows (record { means = c.go_on.new.rest.means; skim = c.go_on.new.rest.skim; is_seen = c.go_on.new.rest.is_seen; row = c.begin_row.result }) (drop n c.args.held.now))
           (sym c.resting-read.ensures.used) (λ e. goes.1, c.begin_row.ensures.begun),
     )
 

@@ -34,7 +34,7 @@ pub returns-then-more-clause-held : goal.returns-then-more-clause-held
 returns-then-more-clause-held c =
     let row = rw c.in-Open.is at c.in_ok-used.ensures.row in (
       (rw c.resting-read.ensures.used (omega arith)),
-      subst (λ n. Knows (record { alloc = c.args.rest.now.alloc; skim = c.go_on_in-rest.new.self; is_seen = c.go_on_in-rest.result; row = Some c.read_maps.new.row }) (drop n c.args.held.now))
+      subst (λ n. Knows (record { means = c.read_maps.new.means; skim = c.go_on_in-rest.new.self; is_seen = c.go_on_in-rest.result; row = Some c.read_maps.new.row }) (drop n c.args.held.now))
           (sym c.resting-read.ensures.used) (λ e. c.go_on_in-rest.ensures.seen e row.0 row.1, row),
     )
 
@@ -49,7 +49,7 @@ pub returns-else-more-clause-held : goal.returns-else-more-clause-held
 returns-else-more-clause-held c =
     let row = rw c.in-Open.is at c.in_ok-used.ensures.row in (
       (rw c.resting-read.ensures.used (omega arith)),
-      subst (λ n. Knows (record { alloc = c.args.rest.now.alloc; skim = c.go_on_in-rest.new.self; is_seen = c.go_on_in-rest.result; row = c.args.rest.now.row }) (drop n c.args.held.now))
+      subst (λ n. Knows (record { means = c.read_maps.new.means; skim = c.go_on_in-rest.new.self; is_seen = c.go_on_in-rest.result; row = c.args.rest.now.row }) (drop n c.args.held.now))
           (sym c.resting-read.ensures.used)
           (λ e. c.go_on_in-rest.ensures.seen e row.0 row.1, subst (λ o. IsBegun o c.args.held.now) (sym c.requires.row) tt),
     )

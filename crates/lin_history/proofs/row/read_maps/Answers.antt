@@ -23,7 +23,7 @@ pub maps-preserved-in_ok-pass_usual-in-Some : goal.maps-preserved-in_ok-pass_usu
 maps-preserved-in_ok-pass_usual-in-Some c =
     let s = c.args.text.now in
     let keyed = c.args.keyed in
-    let names = c.next_usual.new.names in
+    let names = c.next_taken.new.names in
     let t = rw (c.place.ensures, c.levels.ensures.levels) at c.in-Some.ensures.taken in
     let old = c.maps.invariant in
     record {
@@ -52,11 +52,11 @@ maps-preserved c =
     let more = c.in_ok-take_map-in-Element.ensures.begun in
     let same = sym c.take_map.ensures.series in
     record {
-      begun = begins_on c.args.names.now c.maps.names c.take_map.new.names old.begun (begins_on c.maps.names c.next_usual.new.names c.take_map.new.names usual more);
+      begun = begins_on c.args.names.now c.maps.names c.take_map.new.names old.begun (begins_on c.maps.names c.next_taken.new.names c.take_map.new.names usual more);
       row = (old.row.0 ++ v ∷ [], subst (λ r. IsRow r s (old.row.0 ++ v ∷ [])) same (c.in-Element.ensures old.row.0 old.row.1).0);
       told = λ m is row.
-          let mid = reading_before keyed c.next_usual.new.names c.take_map.new.names m more is in
-          let so_far = old.told m (reading_before keyed c.maps.names c.next_usual.new.names m usual mid) row in
+          let mid = reading_before keyed c.next_taken.new.names c.take_map.new.names m more is in
+          let so_far = old.told m (reading_before keyed c.maps.names c.next_taken.new.names m usual mid) row in
           let vs = so_far.0 ++ v ∷ [] in (
             vs,
             subst (λ r. IsRow r s vs) same (c.in-Element.ensures so_far.0 so_far.1).0,
@@ -65,7 +65,7 @@ maps-preserved c =
     }
 
 pub returns-in-Closed-clause-begun : goal.returns-in-Closed-clause-begun
-returns-in-Closed-clause-begun c = begins_on c.args.names.now c.maps.names c.next_usual.new.names c.maps.invariant.begun c.in-None.ensures.begun
+returns-in-Closed-clause-begun c = begins_on c.args.names.now c.maps.names c.next_taken.new.names c.maps.invariant.begun c.in-None.ensures.begun
 
 pub returns-in-Closed-clause-row : goal.returns-in-Closed-clause-row
 returns-in-Closed-clause-row c =
@@ -75,12 +75,12 @@ returns-in-Closed-clause-row c =
 
 pub returns-in-Closed-clause-told : goal.returns-in-Closed-clause-told
 returns-in-Closed-clause-told c = λ m is row.
-    let so_far = c.maps.invariant.told m (reading_before c.args.keyed c.maps.names c.next_usual.new.names m c.in-None.ensures.begun is) row in
+    let so_far = c.maps.invariant.told m (reading_before c.args.keyed c.maps.names c.next_taken.new.names m c.in-None.ensures.begun is) row in
     let closed = c.in-Closed.ensures so_far.0 so_far.1 in
     (closed.0, closed.2, row_told m c.next.new.self.is_tagged c.next.new.self.is_vector so_far.0 closed.0 closed.1 ∙ so_far.2)
 
 pub returns-in-Unknown-clause-begun : goal.returns-in-Unknown-clause-begun
-returns-in-Unknown-clause-begun c = begins_on c.args.names.now c.maps.names c.next_usual.new.names c.maps.invariant.begun c.in-None.ensures.begun
+returns-in-Unknown-clause-begun c = begins_on c.args.names.now c.maps.names c.next_taken.new.names c.maps.invariant.begun c.in-None.ensures.begun
 
 pub returns-in-Unknown-clause-row : goal.returns-in-Unknown-clause-row
 returns-in-Unknown-clause-row c =
@@ -89,5 +89,5 @@ returns-in-Unknown-clause-row c =
 
 pub returns-in-Unknown-clause-told : goal.returns-in-Unknown-clause-told
 returns-in-Unknown-clause-told c = λ m is row.
-    let so_far = c.maps.invariant.told m (reading_before c.args.keyed c.maps.names c.next_usual.new.names m c.in-None.ensures.begun is) row in
+    let so_far = c.maps.invariant.told m (reading_before c.args.keyed c.maps.names c.next_taken.new.names m c.in-None.ensures.begun is) row in
     (so_far.0, (c.in-Unknown.ensures so_far.0 so_far.1).0, so_far.2)

@@ -1,10 +1,9 @@
-use Rattle.std.proofs.Common.{sym, ◌∙◌}
+use Rattle.std.proofs.Common.{subst}
+use Rattle.lin_history.specs.inner.Usual.{IsKeyOf}
 use Rattle.lin_history.proofs.Maps.{none_added}
 use Rattle.lin_history.proofs.usual.keep.Goals as goal
 
-pub returns : goal.returns
-returns c = λ e p. none_added c.args.places.now p c.args.key.now c.args.place
-    (sym c.is_same.ensures ∙ c.if-is_same.false)
-    (sym c.is_same-2.ensures ∙ c.if-is_same-2.false)
-    (sym c.is_same-3.ensures ∙ c.if-is_same-3.false)
-    (sym c.is_same-4.ensures ∙ c.if-is_same-4.false)
+pub returns-in-Other : goal.returns-in-Other
+returns-in-Other c = λ e key is p.
+    let none = subst (λ f. IsKeyOf f key) c.in-Other.is is in
+    none_added c.args.places.now p key c.args.place none.0 none.1 none.2 none.3

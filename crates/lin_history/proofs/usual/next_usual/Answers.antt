@@ -9,19 +9,19 @@ returns-clause-taken c =
     let b : c.window-end.result ≤ length c.args.text.now = c.window-end.ensures.within in
     let d = c.window-end.ensures.short in
     let e = c.in_ok-places.ensures.within.0 in
-    let f = c.tag_until-begun.ensures.within.0 in
-    let at = c.white_until-at.result in
-    let here = tagged_or_not c.args.text.now at c.tag_until-begun.result c.in_ok-places.used c.args.levels c.levels_inside-inside.result map.0 f
-    c.levels_inside-inside.ensures.tagged c.levels_inside-inside.ensures.plain c.tag_until-begun.ensures.tag map.2 in
+    let f = c.in_ok-at.ensures.within.1 in
+    let at = c.in_ok-at.at in
+    let here = tagged_or_not c.args.text.now at c.in_ok-at.begun c.in_ok-places.used c.args.levels c.levels_inside-inside.result map.0 f
+    c.levels_inside-inside.ensures.tagged c.levels_inside-inside.ensures.plain c.in_ok-at.ensures.tag map.2 in
     record {
       entries = map.0;
       at = at;
-      begun = c.white_until-at.ensures.within.0;
+      begun = c.in_ok-at.ensures.within.0;
       some = omega arith;
       inside = omega arith;
       reached = omega arith;
-      short = c.white_until-at.ensures.short;
-      row = c.white_until-at.ensures.row;
+      short = c.in_ok-at.ensures.short;
+      row = c.in_ok-at.ensures.row;
       value = here.0;
       is_map = here.1;
       element = here.2;

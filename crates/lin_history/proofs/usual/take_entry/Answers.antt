@@ -17,4 +17,4 @@ returns-clause-taken c = λ far start upto.
     let e = c.if-used-at.false in
     let value = c.usual_value-used.ensures.value (omega arith) in
     entry_more s start from until at used c.args.levels c.usual_value-used.result.0 (run_value from (slice_range s from until)) value.0 c.args.places.now c.keep.new.places
-    c.usual_value-used.ensures.at upto (c.run_until-until.ensures.run (omega arith)) c.white_until-at.ensures.row value.1 (c.keep.ensures c.if-not-keep.false from)
+    c.usual_value-used.ensures.at upto (c.run_until-until.ensures.run (omega arith)) c.white_until-at.ensures.row value.1 (c.keep.ensures c.if-not-keep.false (slice_range s from until) c.field_named.ensures from)
