@@ -1,10 +1,10 @@
 -- Where a text is cut.
 use native.Mathlib.Numerals.{unary_clauses}
-use Rattle.std.proofs.Common.{◌≡◌, ◌+◌, ◌-◌, ◌<◌, ◌≤◌, ℕ, zero, suc, List, ◌++◌, true, false, ap, refl, sym, ◌∙◌, append_assoc, codes, drop, length, slice_index_or, take, arith, if◌then◌else◌, Result, Ok, Err, OnOk, is_ok}
+use Rattle.std.proofs.Common.{◌≡◌, ◌+◌, ◌-◌, ◌<◌, ◌≤◌, ℕ, zero, suc, List, [], ◌∷◌, ◌++◌, true, false, ap, refl, sym, ◌∙◌, append_assoc, codes, drop, length, slice_index_or, take, arith, if◌then◌else◌, Result, Ok, Err, OnOk, is_ok}
 use Rattle.std.proofs.Math.Seq.{take-add}
 use Rattle.std.proofs.lemmas.Bool.{le-leb, lt-leb}
-use Rattle.std.proofs.lemmas.List.{length-drop, take-append-drop, take_all}
-use Rattle.lin_tables.specs.Values.{begins_letter, letter_at, short_text}
+use Rattle.std.proofs.lemmas.List.{drop-drop, drop_all, length-drop, take-append-drop, take-take, take_all}
+use Rattle.lin_tables.specs.Values.{begins_letter, from_letter, letter_at, short_text}
 
 -- a letter may begin there
 pub letter_here : (text : List ℕ) (at : ℕ) → begins_letter (slice_index_or text at 0) ≡ true → at ≡ letter_at text at
@@ -23,13 +23,35 @@ unfolding letter_at
 letter_first text zero first = refl
 letter_first text (suc at) first = absurd (omega (arith, first))
 
+-- from the end on there is nothing
+pub none_from : (text : List ℕ) (at : ℕ) → length text ≤ at → drop at text ≡ from_letter (drop at text)
+unfolding from_letter
+none_from text at end = drop_all at text end ∙ sym (ap from_letter (drop_all at text end))
+
+-- a letter may begin there
+pub letter_from_here : (text : List ℕ) (at : ℕ) → at < length text → begins_letter (slice_index_or text at 0) ≡ true → drop at text ≡ from_letter (drop at text)
+unfolding from_letter
+letter_from_here [] at inside here = absurd (omega (arith, inside))
+letter_from_here (byte ∷ text) zero inside here = sym (ap (λ b. if b then byte ∷ text else from_letter text) here)
+letter_from_here (byte ∷ text) (suc at) inside here = letter_from_here text at (omega (arith, inside)) here
+
+-- none may
+letter_next : (text : List ℕ) (at : ℕ) → at < length text → begins_letter (slice_index_or text at 0) ≡ false → from_letter (drop (suc at) text) ≡ from_letter (drop at text)
+unfolding from_letter
+letter_next [] at inside none = absurd (omega (arith, inside))
+letter_next (byte ∷ text) zero inside none = sym (ap (λ b. if b then byte ∷ text else from_letter text) none)
+letter_next (byte ∷ text) (suc at) inside none = letter_next text at (omega (arith, inside)) none
+
+pub letter_on : (text : List ℕ) (at : ℕ) → at < length text → begins_letter (slice_index_or text at 0) ≡ false → from_letter (drop (at + 1) text) ≡ from_letter (drop at text)
+letter_on text at inside none = simp unary_clauses (letter_next text at inside none)
+
 pub short_whole : (text : List ℕ) → length text ≤ 24 → short_text text ≡ text
 unfolding short_text
-short_whole text short = ap (λ b. if b then text else take (letter_at text 21) text ++ codes "...") (le-leb _ _ short)
+short_whole text short = ap (λ b. if b then text else take (letter_at text 10) text ++ codes "..." ++ from_letter (drop (length text - 11) text)) (le-leb _ _ short)
 
-pub short_cut : (text : List ℕ) → 24 < length text → short_text text ≡ take (letter_at text 21) text ++ codes "..."
+pub short_cut : (text : List ℕ) → 24 < length text → short_text text ≡ take (letter_at text 10) text ++ codes "..." ++ from_letter (drop (length text - 11) text)
 unfolding short_text
-short_cut text long = ap (λ b. if b then text else take (letter_at text 21) text ++ codes "...") (lt-leb _ _ long)
+short_cut text long = ap (λ b. if b then text else take (letter_at text 10) text ++ codes "..." ++ from_letter (drop (length text - 11) text)) (lt-leb _ _ long)
 
 -- all of a line from a place on
 pub rest_of : (line : List ℕ) (from : ℕ) → take (length line - from) (drop from line) ≡ drop from line
@@ -39,13 +61,20 @@ rest_of line from = take_all (length line - from) (drop from line) (let long = l
 pub stays_short : (line : List ℕ) (from : ℕ) → length (drop from line) ≤ 24 → line ≡ take from line ++ short_text (drop from line)
 stays_short line from short = sym (ap (λ l. take from line ++ l) (short_whole (drop from line) short) ∙ take-append-drop from line)
 
--- one whose end isn't is cut
-pub is_cut : (line : List ℕ) (from : ℕ) → 24 < length (drop from line)
-    → take (from + letter_at (drop from line) 21) line ++ codes "..." ≡ take from line ++ short_text (drop from line)
-is_cut line from long =
-    let cut = letter_at (drop from line) 21 in
-    ap (λ l. l ++ codes "...") (take-add from cut line) ∙ append_assoc (take from line) (take cut (drop from line)) (codes "...")
-    ∙ sym (ap (λ l. take from line ++ l) (short_cut (drop from line) long))
+-- the middle of one whose end isn't goes
+pub is_cut : (line rest : List ℕ) (from front back : ℕ) → 24 < length (drop from line) → front ≤ back → front ≡ letter_at (drop from line) 10
+    → drop back (drop from line) ≡ from_letter (drop (length (drop from line) - 11) (drop from line)) → rest ≡ drop (from + back) line
+    → (take (from + front) (take (from + back) line) ++ codes "...") ++ rest ≡ take from line ++ short_text (drop from line)
+is_cut line rest from front back long least is_front is_back is_rest =
+    let text = drop from line in
+    let kept = take-take (from + front) (from + back) line (omega (arith, least)) ∙ take-add from front line in
+    let behind = is_rest ∙ sym (drop-drop back from line) ∙ is_back in
+    ap (λ l. (l ++ codes "...") ++ rest) kept
+    ∙ ap (λ l. ((take from line ++ take front text) ++ codes "...") ++ l) behind
+    ∙ ap (λ l. l ++ from_letter (drop (length text - 11) text)) (append_assoc (take from line) (take front text) (codes "..."))
+    ∙ append_assoc (take from line) (take front text ++ codes "...") (from_letter (drop (length text - 11) text))
+    ∙ ap (λ n. take from line ++ ((take n text ++ codes "...") ++ from_letter (drop (length text - 11) text))) is_front
+    ∙ sym (ap (λ l. take from line ++ l) (short_cut text long))
 
 pub put_ok : {T E : Type 0} (r : Result T E) (new all old wanted : List ℕ) → new ≡ (if is_ok r then all else old) → all ≡ wanted → OnOk r (new ≡ wanted)
 put_ok (Ok x) new all old wanted put is = put ∙ is

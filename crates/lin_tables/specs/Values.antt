@@ -1,5 +1,5 @@
 -- The words of values and of where an object stands, as an explanation tells them.
-use Rattle.std.specs.Prelude.{ℕ, zero, suc, ◌||◌, Bool, List, [], ◌∷◌, ◌++◌, codes, decimal, length, map, nat_le, nat_lt, slice_index_or, take, true, false, if◌then◌else◌}
+use Rattle.std.specs.Prelude.{ℕ, zero, suc, ◌||◌, Bool, List, [], ◌∷◌, ◌++◌, ◌-◌, codes, decimal, drop, length, map, nat_le, nat_lt, slice_index_or, take, true, false, if◌then◌else◌}
 use Rattle.std.specs.List.{join_by}
 use Rattle.lin_events.specs.declared.items.Item.{Item}
 use Rattle.lin_events.specs.declared.calls.Val.{Val}
@@ -21,9 +21,14 @@ unfoldable pub letter_at : List ℕ → ℕ → ℕ
 letter_at text zero = 0
 letter_at text (suc at) = if begins_letter (slice_index_or text (suc at) 0) then suc at else letter_at text at
 
--- a text of at most 24 bytes; of a longer one the beginning, up to where a letter may begin within 21 bytes, and three dots
+-- the text from where a letter may begin
+unfoldable pub from_letter : List ℕ → List ℕ
+from_letter [] = []
+from_letter (byte ∷ text) = if begins_letter byte then byte ∷ text else from_letter text
+
+-- a text of at most 24 bytes; of a longer one its first 10, up to where a letter may begin, three dots, and its last 11, from where one may
 unfoldable pub short_text : List ℕ → List ℕ
-short_text text = if nat_le (length text) 24 then text else take (letter_at text 21) text ++ codes "..."
+short_text text = if nat_le (length text) 24 then text else take (letter_at text 10) text ++ codes "..." ++ from_letter (drop (length text - 11) text)
 
 abbrev pub short_spelled : Spelled → List ℕ
 short_spelled s = short_text (spelled_text s)

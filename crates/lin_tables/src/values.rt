@@ -2,7 +2,7 @@
 ghost use Rattle.std.specs.Prelude.{◌≡◌, ◌++◌, ◌<◌, ◌≤◌, codes, drop, length, map, take, OnOk};
 ghost use Rattle.std.specs.List.{join_by};
 ghost use Rattle.lin_names.specs.Spelled.{spelled};
-ghost use Rattle.lin_tables.specs.Values.{begins_letter, between, items_text, letter_at, queue_text, reply_text, short_item_text, short_spelled, short_text, state_text, told_text, value_text};
+ghost use Rattle.lin_tables.specs.Values.{begins_letter, between, from_letter, items_text, letter_at, queue_text, reply_text, short_item_text, short_spelled, short_text, state_text, told_text, value_text};
 
 use lin_events::{Item, Reply, Val};
 use lin_names::{Names, in_print, is_in_print};
@@ -13,7 +13,12 @@ use std::alloc::AllocError;
 /// So many bytes of a value are told at most.
 const LONGEST: usize = 24;
 
-/// What stands behind the beginning of a longer one.
+/// So many of the first bytes of a longer one are told at most, and so many of the last ones.
+const FRONT: usize = 10;
+
+const BACK: usize = 11;
+
+/// What stands between the two.
 const DOTS: &[u8] = b"...";
 
 /// So many items of a set or a queue are told, and how many there are.
@@ -38,7 +43,20 @@ fn letter_before(text: &[u8], mut at: usize) -> usize
     at
 }
 
-/// Cuts what stands in the line behind a place, where that is too long to be told as a value.
+/// The first place from this one on at which a letter may begin, or the end.
+fn letter_from(text: &[u8], mut at: usize) -> usize
+    requires { at ≤ length text.now }
+    ensures letter { drop result text.now ≡ from_letter (drop at text.now) }
+    ensures least { at ≤ result }
+    ensures within { result ≤ length text.now }
+{
+    while at < text.len() && !may_begin(text[at]) {
+        at += 1;
+    }
+    at
+}
+
+/// Takes the middle out of what stands in the line behind a place, where that is too long to be told as a value.
 fn shorten(line: &mut Vec<u8>, from: usize) -> Result<(), AllocError>
     requires { from ≤ length line.old.items }
     ensures { OnOk result (line.new.items ≡ take from line.old.items ++ short_text (drop from line.old.items)) }
@@ -47,12 +65,15 @@ fn shorten(line: &mut Vec<u8>, from: usize) -> Result<(), AllocError>
     if text.len() <= LONGEST {
         return Ok(());
     }
-    let cut = letter_before(text, LONGEST - DOTS.len());
-    line.truncate(from + cut);
-    line.extend_from_slice(DOTS)
+    let front = letter_before(text, FRONT);
+    let back = letter_from(text, text.len() - BACK);
+    let rest = line.split_off(from + back)?;
+    line.truncate(from + front);
+    line.extend_from_slice(DOTS)?;
+    line.extend_from_slice(rest.as_slice())
 }
 
-/// Puts an item last as values are told: a long word is cut.
+/// Puts an item last as values are told: of a long word the middle is left out.
 pub fn put_short_item(line: &mut Vec<u8>, names: &Names, item: Item) -> Result<(), AllocError>
     ensures { OnOk result (line.new.items ≡ line.old.items ++ short_item_text names.now item) }
 {
