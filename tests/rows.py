@@ -27,7 +27,8 @@ Words are divided and quoted as in a shell, those of `parts` too. Bytes, command
 with the history, the only one of the folder. A row stands for several where it has the word `EACH` (each kind of object), `FILE:A..B`
 (the first A bytes of the history, the first A + 1, and so on to B) or at its end `> A..B` (a standard output that takes A bytes of what
 is wanted and then fails, one that takes A + 1, and so on). `> PATH` sends standard output elsewhere. Standard error has to stay empty, but
-for the lines that are wanted there.
+for the lines that are wanted there, and for what is told of files that are refused: where `check`, `verify` or `draw` print that FILE is refused, a
+line says where in the history and the rule (REFUSED), once for each time that FILE is named.
 
 A line of another form is a fault, and so is a group without rows.
 
@@ -55,6 +56,34 @@ SECONDS = 600
 MANY = 10000  # bytes of a row that isn't small
 COUNTED = re.compile(rb'work scans (\d+) steps (\d+) tries (\d+)')
 COUNTS = ('scans', 'steps', 'tries')
+REFUSED = {
+    b'edn 1': b'this bracket closes none, or not the one that is open',
+    b'edn 2': b'this ends a map whose last key has no value',
+    b'edn 3': b'this is the 65th level of nesting, and 64 are read',
+    b'edn 4': b'this element, comment or discard has more than 16777216 bytes',
+    b'event 1': b'each element has to be a map, or a vector or list of maps',
+    b'event 2': b'one of :process, :type, :f and :value stands twice in this map',
+    b'event 3': b'this map lacks :process, :type or :f',
+    b'event 4': b':process has to be an integer of at least 0, or the keyword of a nemesis',
+    b'event 5': b':type has to be :invoke, :ok, :fail or :info',
+    b'event 6': b':f has to be :read, :write, :cas, :enqueue, :dequeue, :add, :acquire or :release',
+    b'event 7': b'with --keyed each :value has to be a pair [key value]',
+    b'event 8': b":value isn't one that this :f takes or gives",
+    b'truncated': b'the file ends within the element or discard that begins here',
+    b'few': b"the file has fewer events of clients than --at-least asks for; what a nemesis did isn't counted",
+    b'edit 2': b'a history has at most 1000000 events',
+}
+PLACELESS = (b'few', b'edit 2')
+REFUSAL = re.compile(rb'refused (?:input )?(edn \d|event \d|truncated|few|edit 2)(?: (?!at )\w+)?(?: at (\d+))?')
+NOTE = re.compile(rb'lincheck: FILE: (?:line (\d+), byte (\d+): )?(.*)')
+HINTS = [  # what may help, behind the rule
+    b'; the value is of two parts: if it is a key and a value, say --keyed',
+    b'; its keys are strings: is it JSON? (examples/from_json.py makes a history of JSON lines)',
+    b'; the file begins with a byte order mark: take it away',
+    b'; the file is compressed (gzip): unpack it first',
+    b'; the file is UTF-16: make it UTF-8',
+    b'; check a beginning of it, or its keys apart',
+]
 # Becomes a program whose files can't grow beyond a number of bytes. Python ignores the signal for that, and what it becomes does too:
 # the write that doesn't fit is cut short, and the next one fails.
 CRAMPED = 'import os, resource, sys; size = int(sys.argv[1]); resource.setrlimit(resource.RLIMIT_FSIZE, (size, size)); os.execv(sys.argv[2], sys.argv[2:])'
@@ -169,19 +198,50 @@ class Row:
                 wanted.append(text)
         return b''.join(wanted)[:self.taken]
 
+    def is_told(self, history, found, line):
+        """Whether the line of standard error tells of the refusal that was found of the history: the place of a map in a vector is any behind that of the vector."""
+        note, (why, at) = NOTE.fullmatch(line), found.groups()
+        if not note or not note[3].startswith(REFUSED[why]):
+            return False
+        rest = note[3][len(REFUSED[why]):]
+        for hint in HINTS:
+            rest = rest.removeprefix(hint)
+        if rest or (why in PLACELESS) != (note[1] is None):
+            return False
+        if why in PLACELESS:
+            return True
+        line, byte = int(note[1]), int(note[2])
+        is_inside = why.startswith(b'event') and history[int(at):int(at) + 1] in (b'[', b'(', b'#')
+        return (int(at) < byte < len(history) if is_inside and byte != int(at) else byte == int(at)) and line == 1 + history[:byte].count(b'\n')
+
+    def noted(self, history, failed):
+        """The bytes wanted on standard error; a printed line that tells why FILE is refused is wanted as it is."""
+        noted = b''.join(text for what, text in self.steps if what == 'noted')
+        printed = b''.join(text for what, text in self.steps if what == 'wanted')
+        # (of several files what is printed of each stands behind its name)
+        of_each = [text for name, text in re.findall(rb'^file (.*)\n((?:(?!file ).*\n)*)', printed, re.M) if name == b'FILE'] or [printed]
+        found = self.status == 4 and self.words[0] in (b'check', b'verify', b'draw') and REFUSAL.search(of_each[0])
+        if not found or b'FILE' not in self.words:
+            return noted
+        lines = [line for line in failed.splitlines() if self.is_told(history, found, line)]
+        wanted = self.words[1:].count(b'FILE')
+        return noted + b''.join(line + b'\n' for line in lines[:wanted]) + b'why FILE is refused\n' * (wanted - len(lines))
+
     def fault(self, program):
         """What is wrong with the run, or None."""
+        history = b''
         try:
             with tempfile.TemporaryDirectory() as folder:
                 if b'FILE' in self.words:
                     how, text = self.history
+                    history = HISTORIES[how](text)[:self.kept]
                     with open(os.path.join(folder, 'FILE'), 'wb') as file:
-                        file.write(HISTORIES[how](text)[:self.kept])
+                        file.write(history)
                 printed, failed, status = self.run([program] + self.words, folder)
         except (ValueError, OSError) as error:  # there is no such history; no program starts, or it ended before its file grew
             return '%s: %s' % (self.place, error)
         wanted = self.wanted(printed)
-        noted = b''.join(text for what, text in self.steps if what == 'noted')
+        noted = self.noted(history, failed)
         if status == self.status and failed == noted and (printed if wanted == b'...\n' else printed == wanted):
             return None
         # long words are cut, and of long texts the ends are shown

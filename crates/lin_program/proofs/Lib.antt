@@ -1,3 +1,3 @@
 mod Runs
 mod Found
-mod Orders
+mod LineOrders

@@ -1,5 +1,5 @@
 -- Reports one behind the other, and devices within counters.
-use Rattle.std.proofs.Common.{◌≡◌, ◌∙◌, Bool, ◌<◌, ◌≤◌, ◌+◌, ◌++◌, ◌∷◌, [], ℕ, List, Bor, Option, Result, Ok, Err, ◌⊎◌, inl, inr, length, map, take, drop, get_or, suc, refl, sym, ap, subst, append-nil, arith}
+use Rattle.std.proofs.Common.{◌≡◌, ◌∙◌, Bool, ◌<◌, ◌≤◌, ◌+◌, ◌++◌, ◌∷◌, [], ℕ, List, Bor, Option, Some, Result, Ok, Err, ◌⊎◌, inl, inr, length, map, take, drop, get_or, suc, refl, sym, ap, subst, append-nil, arith}
 use Rattle.std.specs.Result.{IsErrAnd}
 use Rattle.std.proofs.Math.Seq.{split_at}
 use Rattle.std.proofs.lemmas.List.{map-append, take_all, take_more}
@@ -11,7 +11,7 @@ use Rattle.lin_texts.specs.declared.settings.Settings.{Settings}
 use Rattle.lin_texts.specs.declared.faults.RunFault.{RunFault}
 use Rattle.lin_texts.specs.declared.status.Status.{Status}
 use Rattle.lin_texts.specs.declared.status.Status.TheVariants.{Yes}
-use Rattle.lin_program.specs.Endings.{AreTold}
+use Rattle.lin_program.specs.Endings.{AreTold, AreToldRefused, MayTellRefused}
 use Rattle.lin_program.specs.Exit.{SystemWords, worse, worst}
 use Rattle.lin_program.specs.Reporting.{AreAmong, AreReportedFrom, AreReports, Reporting, one_more}
 use Rattle.lin_program.specs.declared.endings.Stop.{Stop}
@@ -80,3 +80,12 @@ module _ {S F C O : Type 0} (system : SystemWords S F C O) (old : S) where
   -- all are
   pub told_all : (names : List (Bor (List ℕ))) (i : ℕ) (now : S) → length names ≤ i → AreTold system old (take i names) now → AreTold system old names now
   told_all names i now past so_far = subst (λ ns. AreTold system old ns now) (take_all i names past) so_far
+
+  -- of one more it may be told that it is refused
+  pub refused_more : (names : List (Bor (List ℕ))) (i : ℕ) (d : Bor (List ℕ)) (now new : S) → i < length names → AreToldRefused system old (take i names) now
+      → MayTellRefused system now (Some (get_or names i d).now) new → AreToldRefused system old (take (i + 1) names) new
+  refused_more names i d now new inside so_far one =
+      subst (λ ns. AreToldRefused system old ns new) (sym (take_more names i d inside)) (AreToldRefused.one_more so_far (get_or names i d) new one)
+
+  pub refused_all : (names : List (Bor (List ℕ))) (i : ℕ) (now : S) → length names ≤ i → AreToldRefused system old (take i names) now → AreToldRefused system old names now
+  refused_all names i now past so_far = subst (λ ns. AreToldRefused system old ns now) (take_all i names past) so_far

@@ -40,6 +40,14 @@ reported_files (Draw settings key last file) = file.now ∷ []
 reported_files (Verify settings order files) = []
 reported_files (Edit settings file) = []
 
+-- the files that a line has read, of which each may be refused
+abbrev pub read_files : Line → List (List ℕ)
+read_files (Check settings format files) = map (λ n. n.now) files.items
+read_files (Explain settings key all_keys with_order format file) = file.now ∷ []
+read_files (Draw settings key last file) = file.now ∷ []
+read_files (Verify settings order files) = map (λ n. n.now) files.items
+read_files (Edit settings file) = []
+
 -- Of the files of these names, one after the other, it was told that no event was read from them, or that couldn't be told: from the old system on.
 pub data AreTold {S F C O : Type 0} (system : SystemWords S F C O) (old : S) : List (Bor (List ℕ)) → S → Type 0 where
   nothing : AreTold system old [] old
@@ -57,6 +65,12 @@ pulled_from (Verify settings order files) = None
 -- nothing was told; or of the file of this name that it is refused, or that couldn't be told
 abbrev pub MayTellRefused : {S F C O : Type 0} → SystemWords S F C O → S → Option (List ℕ) → S → Type 0
 MayTellRefused system old name new = (new ≡ old) ⊎ ((path : Bor (List ℕ)) × (words : Bor (List ℕ)) × (name ≡ Some path.now) × ((told : Bool) × system.tells old (message.Refused path words) told new))
+
+-- of the files of these names, one after the other, it may have been told that they are refused: from the old system on
+pub data AreToldRefused {S F C O : Type 0} (system : SystemWords S F C O) (old : S) : List (Bor (List ℕ)) → S → Type 0 where
+  nothing : AreToldRefused system old [] old
+  one_more : {names : List (Bor (List ℕ))} {now : S} → AreToldRefused system old names now → (path : Bor (List ℕ)) (new : S) →
+      MayTellRefused system now (Some path.now) new → AreToldRefused system old (names ++ path ∷ []) new
 
 -- the text ends with this byte
 abbrev pub EndsIn : ℕ → List ℕ → Type 0
@@ -138,9 +152,10 @@ module _ {S F C O : Type 0} (system : SystemWords S F C O) (old new : S) where
   EndsBy (Err (Fault fault)) status = IsTold (λ m. m ≡ message.Fault fault) × (status ≡ exit_status (Err fault))
 
 -- The program ends so on a line: what the line says is done with the old system; of some of its files it may be told that no event was read, and of
--- the one that commands pull from that it is refused; and it ends by the outcome.
+-- some, and of the one that commands pull from, that they are refused; and it ends by the outcome.
 abbrev pub Ends : {S F C O : Type 0} → SystemWords S F C O → S → S → (F → Option (List ℕ)) → (C → Option (List ℕ)) → (O → Option (List ℕ)) → Line → ℕ → Type 0
 Ends {S} system old new held commanded written line status =
     (outcome : Result Status Stop) × IsOutcomeOf system held commanded written old line outcome
     × (names : List (Bor (List ℕ))) × AreAmong (reported_files line) names × (told : S) × AreTold system old names told
-    × (noted : S) × MayTellRefused system told (pulled_from line) noted × EndsBy system noted new outcome status
+    × (refused : List (Bor (List ℕ))) × AreAmong (read_files line) refused × (noted : S) × AreToldRefused system told refused noted
+    × (last : S) × MayTellRefused system noted (pulled_from line) last × EndsBy system last new outcome status

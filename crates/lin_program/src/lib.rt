@@ -3,7 +3,7 @@
 
 ghost use Rattle.std.specs.Prelude.{◌≡◌, [], map, option_map};
 ghost use Rattle.std.specs.IoError.{error_kind};
-ghost use Rattle.lin_program.specs.Endings.{AreTold, Ends, EndsBy, IsEdited, IsEditedIn, IsOutcomeOf, IsRunnable, IsVerifiedBy, IsVerifiedFrom, MayTellRefused, pulled_from, reported_files};
+ghost use Rattle.lin_program.specs.Endings.{AreTold, AreToldRefused, Ends, EndsBy, IsEdited, IsEditedIn, IsOutcomeOf, IsRunnable, IsVerifiedBy, IsVerifiedFrom, MayTellRefused, pulled_from, read_files, reported_files};
 ghost use Rattle.lin_program.specs.Program.{EndsOnWords, EndsWithoutWords};
 ghost use Rattle.lin_program.specs.Reporting.{AreAmong};
 ghost use Rattle.lin_program.specs.Tasks.{HasBudget};
@@ -13,6 +13,7 @@ mod command_line;
 mod endings;
 mod misuse;
 mod orders;
+mod refused_files;
 mod reporting;
 mod said;
 mod system;
@@ -27,6 +28,7 @@ use endings::{FAILED, LINE_REFUSED, Stop, stopped};
 use lin_formats::{Counted, Refusal, RunFault, Settings, Status, refusal_words};
 use lin_report::{Question, run as edit};
 use orders::{bytes_in, without_line_end};
+use refused_files::tell_file;
 use reporting::report_all;
 use std::alloc::{AllocError, Global};
 use std::io;
@@ -40,6 +42,8 @@ pub use words::{Format, Line, OrderSource};
 struct Notes<'a> {
     /// The names of those from which no event was read, though one is looked for there.
     empty: Vec<&'a str>,
+    /// The names of those that are refused.
+    files: Vec<&'a str>,
     /// Why the file that commands pull from was refused last.
     refused: Option<Refusal>,
 }
@@ -51,14 +55,17 @@ fn verify_from<'a, S: System>(
     settings: Settings,
     name: &'a str,
     files: &[&'a str],
+    refused: &mut Vec<&'a str>,
 ) -> Result<Status, Stop<'a>>
-    requires { HasBudget settings }
-    ensures { IsVerifiedFrom S.words S.File.remaining S.Commands.remaining S.Out.contents system.now settings name.now (map (λ n. n.now) files.now) result }
+    requires budget { HasBudget settings }
+    requires none { refused.old.items ≡ [] }
+    ensures noted { AreAmong (map (λ n. n.now) files.now) refused.new.items }
+    ensures verified { IsVerifiedFrom S.words S.File.remaining S.Commands.remaining S.Out.contents system.now settings name.now (map (λ n. n.now) files.now) result }
 {
     let text = bytes_in(alloc, system, name)?;
     let order = without_line_end(text.as_slice());
     let task = Task::Verify(settings, order);
-    report_all(alloc, system, task, files, &mut Vec::new(alloc))
+    report_all(alloc, system, task, files, &mut Vec::new(alloc), refused)
 }
 
 /// Decides of each of the files whether the order is a legal order of its history.
@@ -68,16 +75,19 @@ fn verify_all<'a, S: System>(
     settings: Settings,
     order: OrderSource<'a>,
     files: &[&'a str],
+    refused: &mut Vec<&'a str>,
 ) -> Result<Status, Stop<'a>>
-    requires { HasBudget settings }
-    ensures { IsVerifiedBy S.words S.File.remaining S.Commands.remaining S.Out.contents system.now settings order.entry (map (λ n. n.now) files.now) result }
+    requires budget { HasBudget settings }
+    requires none { refused.old.items ≡ [] }
+    ensures noted { AreAmong (map (λ n. n.now) files.now) refused.new.items }
+    ensures verified { IsVerifiedBy S.words S.File.remaining S.Commands.remaining S.Out.contents system.now settings order.entry (map (λ n. n.now) files.now) result }
 {
     match order {
         OrderSource::Given(text) => {
             let task = Task::Verify(settings, text.as_bytes());
-            report_all(alloc, system, task, files, &mut Vec::new(alloc))
+            report_all(alloc, system, task, files, &mut Vec::new(alloc), refused)
         }
-        OrderSource::InFile(name) => verify_from(alloc, system, settings, name, files),
+        OrderSource::InFile(name) => verify_from(alloc, system, settings, name, files, refused),
     }
 }
 
@@ -133,8 +143,10 @@ fn carry_out<'a, S: System>(
 ) -> Result<Status, Stop<'a>>
     requires runs { IsRunnable line.now }
     requires none { notes.old.empty.items ≡ [] }
+    requires unrefused { notes.old.files.items ≡ [] }
     ensures outcome { IsOutcomeOf S.words S.File.remaining S.Commands.remaining S.Out.contents system.now line.now result }
     ensures named { AreAmong (reported_files line.now) notes.new.empty.items }
+    ensures noted { AreAmong (read_files line.now) notes.new.files.items }
 {
     match line {
         Line::Check {
@@ -143,7 +155,14 @@ fn carry_out<'a, S: System>(
             files,
         } => {
             let task = Task::Check(*settings, report_format(*format));
-            report_all(alloc, system, task, files.as_slice(), &mut notes.empty)
+            report_all(
+                alloc,
+                system,
+                task,
+                files.as_slice(),
+                &mut notes.empty,
+                &mut notes.files,
+            )
         }
         Line::Explain {
             settings,
@@ -160,7 +179,14 @@ fn carry_out<'a, S: System>(
                 format: report_format(*format),
             };
             let task = Task::Explain(*settings, question);
-            report_all(alloc, system, task, &[*file], &mut notes.empty)
+            report_all(
+                alloc,
+                system,
+                task,
+                &[*file],
+                &mut notes.empty,
+                &mut notes.files,
+            )
         }
         Line::Draw {
             settings,
@@ -169,13 +195,27 @@ fn carry_out<'a, S: System>(
             file,
         } => {
             let task = Task::Draw(*settings, *key, *last);
-            report_all(alloc, system, task, &[*file], &mut notes.empty)
+            report_all(
+                alloc,
+                system,
+                task,
+                &[*file],
+                &mut notes.empty,
+                &mut notes.files,
+            )
         }
         Line::Verify {
             settings,
             order,
             files,
-        } => verify_all(alloc, system, *settings, *order, files.as_slice()),
+        } => verify_all(
+            alloc,
+            system,
+            *settings,
+            *order,
+            files.as_slice(),
+            &mut notes.files,
+        ),
         Line::Edit { settings, file } => {
             edit_named(alloc, system, *settings, *file, &mut notes.refused)
         }
@@ -188,6 +228,26 @@ fn tell_empty<S: System>(system: &mut S, names: &[&str])
 {
     for name in names {
         let _is_told = system.tell(&Message::NothingRead(*name));
+    }
+}
+
+/// The settings of the line.
+fn settings_said(line: &Line) -> Settings {
+    match line {
+        Line::Check { settings, .. }
+        | Line::Explain { settings, .. }
+        | Line::Draw { settings, .. }
+        | Line::Verify { settings, .. }
+        | Line::Edit { settings, .. } => *settings,
+    }
+}
+
+/// Tells of each of the files why it is refused, as it stands now.
+fn tell_files<S: System>(alloc: Global, system: &mut S, settings: Settings, names: &[&str])
+    ensures { AreToldRefused S.words system.old names.now system.new }
+{
+    for name in names {
+        tell_file(alloc, system, settings, name);
     }
 }
 
@@ -237,18 +297,20 @@ fn end<S: System>(system: &mut S, outcome: Result<Status, Stop>) -> u8
     }
 }
 
-/// Does what the line says, tells from which files no event was read, why the file of `edit` is refused, if it is, and why that ended early, if it
-/// did, and gives the exit status.
+/// Does what the line says, tells from which files no event was read, why files are refused, and why that ended early, if it did, and gives the exit
+/// status.
 fn run_line<S: System>(alloc: Global, system: &mut S, line: Line) -> u8
     requires { IsRunnable line }
     ensures { Ends S.words system.old system.new S.File.remaining S.Commands.remaining S.Out.contents line.entry result }
 {
     let mut notes = Notes {
         empty: Vec::new(alloc),
+        files: Vec::new(alloc),
         refused: None,
     };
     let outcome = carry_out(alloc, &*system, &line, &mut notes);
     tell_empty(system, notes.empty.as_slice());
+    tell_files(alloc, system, settings_said(&line), notes.files.as_slice());
     // (where there is no memory for the words, they aren't told)
     let _is_told = tell_refused(alloc, system, pulled_file(&line), notes.refused).is_ok();
     end(system, outcome)

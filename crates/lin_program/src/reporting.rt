@@ -92,20 +92,28 @@ fn keep_if<'a>(is_kept: bool, name: &'a str, names: &mut Vec<&'a str>)
     }
 }
 
+/// Whether it is told beside what was written why the file of the name is refused: an explanation says so itself, and standard input is gone.
+fn is_noted(task: &Task, name: &str, status: Status) -> bool {
+    status == Status::Refused && name != "-" && !matches!(task, Task::Explain(..))
+}
+
 /// Reports on the files of these names, one behind the other, and gives the worst status. The names of those that are whole histories of no
-/// event are put into `empty`, as far as there is memory for that.
+/// event are put into `empty`, and those of refused ones into `refused`, as far as there is memory for that.
 pub fn report_all<'a, S: System>(
     alloc: Global,
     system: &S,
     task: Task,
     names: &[&'a str],
     empty: &mut Vec<&'a str>,
+    refused: &mut Vec<&'a str>,
 ) -> Result<Status, Stop<'a>>
     requires budget { HasBudget (settings_of task) }
     requires none { empty.old.items ≡ [] }
+    requires unrefused { refused.old.items ≡ [] }
     ensures reported { AreReported S.words S.File.remaining S.Commands.remaining system.now S.Out.contents (λ several. IsTaskRun (task_among several task.entry))
         (λ several. heading_of (task_among several task.entry)) (map (λ n. n.now) names.now) result }
     ensures named { AreAmong (map (λ n. n.now) names.now) empty.new.items }
+    ensures noted { AreAmong (map (λ n. n.now) names.now) refused.new.items }
 {
     let mut out = Counted::new(system.out());
     let is_named = 1 < names.len();
@@ -116,6 +124,7 @@ pub fn report_all<'a, S: System>(
         let status = report(alloc, system, task, name, is_named, &mut out, &mut is_empty)?;
         worst = worse(worst, status);
         keep_if(is_empty, name, empty);
+        keep_if(is_noted(&task, name, status), name, refused);
     }
     Ok(worst)
 }

@@ -15,7 +15,7 @@ pub enum Message<'a> {
     NotOpened(&'a str),
     /// No event of a client was read from the file of this name.
     NothingRead(&'a str),
-    /// The file of this name, which `edit` read, is refused, by these words.
+    /// The file of this name is refused, by these words.
     Refused(&'a str, &'a str),
     /// Why a run ended early.
     Fault(RunFault),

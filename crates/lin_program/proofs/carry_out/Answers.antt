@@ -2,7 +2,7 @@ use Rattle.std.proofs.Common.{[], ◌∷◌, map, subst, sym}
 use Rattle.std.proofs.lemmas.List.Elements.{All-nil}
 use Rattle.lin_report.specs.Explanations.{IsExplainRun}
 use Rattle.lin_report.specs.Reports.{IsCheckRun}
-use Rattle.lin_program.specs.Endings.{IsOutcomeOf, IsVerifiedBy, reported_files}
+use Rattle.lin_program.specs.Endings.{IsOutcomeOf, IsVerifiedBy, read_files, reported_files}
 use Rattle.lin_program.specs.Reporting.{AreAmong, AreReported}
 use Rattle.lin_program.specs.Tasks.{format_among, heading_in}
 use Rattle.lin_report.specs.declared.formats.ReportFormat.TheVariants.{Text}
@@ -21,7 +21,7 @@ returns-in-Check-clause-outcome g c =
 pub returns-in-Verify-clause-outcome : goal.returns-in-Verify-clause-outcome
 returns-in-Verify-clause-outcome g c =
     let all = subst (λ ns. IsVerifiedBy g.S.System.words g.S.File.Read.remaining g.S.Commands.Read.remaining g.S.Out.Write.contents c.args.system.now c.in-Verify.settings c.in-Verify.order
-    (map (λ n. n.now) ns) c.verify_all.result) c.as_slice-in-Verify.ensures.value c.verify_all.ensures in
+    (map (λ n. n.now) ns) c.verify_all.result) c.as_slice-in-Verify.ensures.value c.verify_all.ensures.verified in
     subst (λ l. IsOutcomeOf g.S.System.words g.S.File.Read.remaining g.S.Commands.Read.remaining g.S.Out.Write.contents c.args.system.now l c.verify_all.result) (sym c.in-Verify.is) all
 
 pub returns-in-Explain-clause-outcome : goal.returns-in-Explain-clause-outcome
@@ -55,3 +55,23 @@ returns-in-Verify-clause-named g c = subst (AreAmong (reported_files c.args.line
 
 pub returns-in-Edit-clause-named : goal.returns-in-Edit-clause-named
 returns-in-Edit-clause-named g c = subst (AreAmong (reported_files c.args.line.now)) (sym c.requires.none) (All-nil _)
+
+pub returns-in-Check-clause-noted : goal.returns-in-Check-clause-noted
+returns-in-Check-clause-noted g c =
+    let noted = subst (λ ns. AreAmong (map (λ n. n.now) ns) c.report_all.new.refused.items) c.as_slice.ensures.value c.report_all.ensures.noted in
+    subst (λ l. AreAmong (read_files l) c.report_all.new.refused.items) (sym c.in-Check.is) noted
+
+pub returns-in-Explain-clause-noted : goal.returns-in-Explain-clause-noted
+returns-in-Explain-clause-noted g c =
+    subst (λ l. AreAmong (read_files l) c.report_all-in-Explain.new.refused.items) (sym c.in-Explain.is) c.report_all-in-Explain.ensures.noted
+
+pub returns-in-Draw-clause-noted : goal.returns-in-Draw-clause-noted
+returns-in-Draw-clause-noted g c = subst (λ l. AreAmong (read_files l) c.report_all-in-Draw.new.refused.items) (sym c.in-Draw.is) c.report_all-in-Draw.ensures.noted
+
+pub returns-in-Verify-clause-noted : goal.returns-in-Verify-clause-noted
+returns-in-Verify-clause-noted g c =
+    let noted = subst (λ ns. AreAmong (map (λ n. n.now) ns) c.verify_all.new.refused.items) c.as_slice-in-Verify.ensures.value c.verify_all.ensures.noted in
+    subst (λ l. AreAmong (read_files l) c.verify_all.new.refused.items) (sym c.in-Verify.is) noted
+
+pub returns-in-Edit-clause-noted : goal.returns-in-Edit-clause-noted
+returns-in-Edit-clause-noted g c = subst (AreAmong (read_files c.args.line.now)) (sym c.requires.unrefused) (All-nil _)

@@ -1,10 +1,24 @@
 use Rattle.std.proofs.Common.{subst, sym}
-use Rattle.lin_program.specs.Endings.{MayTellRefused, reported_files}
+use Rattle.lin_program.specs.Endings.{MayTellRefused, read_files, reported_files}
 use Rattle.lin_program.specs.Reporting.{AreAmong}
 use Rattle.lin_program.proofs.run_line.Goals as goal
 
 pub returns : goal.returns
 returns g c =
     let named = subst (AreAmong (reported_files c.args.line)) (sym c.as_slice.ensures.value) c.carry_out-outcome.ensures.named in
-    let refused = subst (λ name. MayTellRefused g.S.System.words c.tell_empty.new.system name c.tell_refused.new.system) c.pulled_file.ensures c.tell_refused.ensures in
-    (c.carry_out-outcome.result, c.carry_out-outcome.ensures.outcome, c.as_slice.result.now, named, c.tell_empty.new.system, c.tell_empty.ensures, c.tell_refused.new.system, refused, c.end.ensures)
+    let noted = subst (AreAmong (read_files c.args.line)) (sym c.as_slice-2.ensures.value) c.carry_out-outcome.ensures.noted in
+    let refused = subst (λ name. MayTellRefused g.S.System.words c.tell_files.new.system name c.tell_refused.new.system) c.pulled_file.ensures c.tell_refused.ensures in (
+      c.carry_out-outcome.result,
+      c.carry_out-outcome.ensures.outcome,
+      c.as_slice.result.now,
+      named,
+      c.tell_empty.new.system,
+      c.tell_empty.ensures,
+      c.as_slice-2.result.now,
+      noted,
+      c.tell_files.new.system,
+      c.tell_files.ensures,
+      c.tell_refused.new.system,
+      refused,
+      c.end.ensures,
+    )

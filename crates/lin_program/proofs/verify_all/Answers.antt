@@ -6,8 +6,8 @@ use Rattle.lin_program.specs.Tasks.{heading_in}
 use Rattle.lin_report.specs.declared.formats.ReportFormat.TheVariants.{Text}
 use Rattle.lin_program.proofs.verify_all.Goals as goal
 
-pub returns-in-Given : goal.returns-in-Given
-returns-in-Given g c =
+pub returns-in-Given-clause-verified : goal.returns-in-Given-clause-verified
+returns-in-Given-clause-verified g c =
     let names = map (λ n. n.now) c.args.files.now in
     let said = subst (λ order. AreReported g.S.System.words g.S.File.Read.remaining g.S.Commands.Read.remaining c.args.system.now g.S.Out.Write.contents (λ several. IsVerifyRun c.args.settings order) (λ several. heading_in Text) names c.report_all.result)
     c.as_bytes.ensures.value c.report_all.ensures.reported in

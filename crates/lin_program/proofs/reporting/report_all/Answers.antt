@@ -8,7 +8,14 @@ use Rattle.lin_program.proofs.Runs.{kept_among, reported_all, reported_more, rep
 use Rattle.lin_program.proofs.reporting.report_all.Goals as goal
 
 pub loop-name-init : goal.loop-name-init
-loop-name-init g c = ([], AreReports.nothing, refl, c.new-out.ensures.none, subst (AreAmong (map (λ n. n.now) c.args.names.now)) (sym c.requires.none) (All-nil _))
+loop-name-init g c = (
+  [],
+  AreReports.nothing,
+  refl,
+  c.new-out.ensures.none,
+  subst (AreAmong (map (λ n. n.now) c.args.names.now)) (sym c.requires.none) (All-nil _),
+  subst (AreAmong (map (λ n. n.now) c.args.names.now)) (sym c.requires.unrefused) (All-nil _),
+)
 
 pub report-requires-clause-writes : goal.report-requires-clause-writes
 report-requires-clause-writes g c = c.loop-name.invariant.3
@@ -16,8 +23,14 @@ report-requires-clause-writes g c = c.loop-name.invariant.3
 pub returns-in_err-status-clause-named : goal.returns-in_err-status-clause-named
 returns-in_err-status-clause-named g c = c.loop-name.invariant.4
 
+pub returns-in_err-status-clause-noted : goal.returns-in_err-status-clause-noted
+returns-in_err-status-clause-noted g c = c.loop-name.invariant.5
+
 pub returns-clause-named : goal.returns-clause-named
 returns-clause-named g c = c.loop-name.invariant.4
+
+pub returns-clause-noted : goal.returns-clause-noted
+returns-clause-noted g c = c.loop-name.invariant.5
 
 pub returns-in_err-status-clause-reported : goal.returns-in_err-status-clause-reported
 returns-in_err-status-clause-reported g c =
@@ -49,6 +62,7 @@ loop-name-preserved g c =
       c.worse-worst.ensures ∙ worst_more statuses status c.loop-name.worst c.loop-name.invariant.2,
       c.in_ok-status.ensures.counts,
       kept_among c.args.names.now _ _ c.loop-name.name-index _ c.loop-name-test.true c.loop-name.invariant.4 c.keep_if.ensures,
+      kept_among c.args.names.now _ _ c.loop-name.name-index _ c.loop-name-test.true c.loop-name.invariant.5 c.keep_if-in-loop-name.ensures,
     )
 
 pub returns-clause-reported : goal.returns-clause-reported

@@ -12,4 +12,4 @@ invariant-loop-name g l =
     × AreReports (IsReportOn g.S.System.words g.S.File.Read.remaining g.S.Commands.Read.remaining l.system (IsTaskRun (task_among l.is_named l.task)) (heading_of (task_among l.is_named l.task)) l.is_named)
     (g.S.Out.Write.contents (device_of l.initial.out)) (map (λ n. n.now) (take l.name-index l.names)) (g.S.Out.Write.contents (device_of l.out)) statuses
     × (l.worst ≡ worst statuses) × (failures_of l.out ≡ 0)
-    × AreAmong (map (λ n. n.now) l.names) l.empty.items
+    × AreAmong (map (λ n. n.now) l.names) l.empty.items × AreAmong (map (λ n. n.now) l.names) l.refused.items

@@ -1,5 +1,5 @@
 use Rattle.std.proofs.lemmas.Result.{IfOk-weaker}
-use Rattle.lin_program.proofs.Orders.{ends_behind, some_of}
+use Rattle.lin_program.proofs.LineOrders.{ends_behind, some_of}
 use Rattle.lin_program.proofs.said.end_in_order.Goals as goal
 
 pub returns-clause-ends : goal.returns-clause-ends

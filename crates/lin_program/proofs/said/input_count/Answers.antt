@@ -2,7 +2,7 @@ use Rattle.std.proofs.Common.{◌∙◌, ◌+◌, ℕ, Bool, List, Bor, count_by
 use Rattle.std.proofs.lemmas.List.{take_all}
 use Rattle.std.proofs.lemmas.List.Sums.{count_by_more_no, count_by_more_yes}
 use Rattle.std.specs.Str.{bytes_eq}
-use Rattle.lin_program.proofs.Orders.{counted_behind}
+use Rattle.lin_program.proofs.LineOrders.{counted_behind}
 use Rattle.lin_program.proofs.said.input_count.Goals.{then-eq, else-eq}
 use Rattle.lin_program.proofs.said.input_count.Goals as goal
 

@@ -1,7 +1,7 @@
 use Rattle.std.proofs.Common.{◌≡◌, true, ap, is_ok, sym, subst}
 use Rattle.lin_texts.specs.Orders.{order_written}
 use Rattle.lin_names.specs.Names.{AreEachOnce, number_of}
-use Rattle.lin_program.proofs.Orders.{written_where_read}
+use Rattle.lin_program.proofs.LineOrders.{written_where_read}
 use Rattle.lin_program.proofs.said.is_order.Goals as goal
 
 pub returns-in-Ok-clause-is : goal.returns-in-Ok-clause-is

@@ -1,5 +1,5 @@
 use Rattle.std.proofs.Common.{◌≡◌, ◌<◌, vec_len, length, refl, arith}
-use Rattle.lin_program.proofs.Orders.{some_of}
+use Rattle.lin_program.proofs.LineOrders.{some_of}
 use Rattle.lin_program.proofs.said.verify_given.Goals as goal
 
 pub returns-in-Some-clause-said : goal.returns-in-Some-clause-said

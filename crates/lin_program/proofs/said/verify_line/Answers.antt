@@ -1,6 +1,6 @@
 use Rattle.std.proofs.lemmas.Result.{IfOk-weaker, IfErr-weaker}
 use Rattle.clap.specs.Words.{found_of, rows_of}
-use Rattle.lin_program.proofs.Orders.{says_given, says_in_file, unsaid_given, unsaid_in_file}
+use Rattle.lin_program.proofs.LineOrders.{says_given, says_in_file, unsaid_given, unsaid_in_file}
 use Rattle.lin_program.proofs.said.verify_line.Goals as goal
 
 pub returns-in-Some-clause-said : goal.returns-in-Some-clause-said

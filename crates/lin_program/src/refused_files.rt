@@ -1,0 +1,56 @@
+//! What is told beside a report of a file that is refused: where, and the rule, as an explanation has it.
+ghost use Rattle.std.specs.Prelude.{Some};
+ghost use Rattle.lin_program.specs.Endings.{MayTellRefused};
+
+use crate::system::{Message, System};
+use lin_formats::{Counted, History, RunFault, Settings, read_placed, refusal_lines};
+use lin_names::Names;
+use std::alloc::{AllocError, Global};
+
+/// Lines as one, without the end of the last one.
+fn as_one(alloc: Global, lines: &[u8]) -> Result<Vec<u8>, AllocError> {
+    let mut words = Vec::new(alloc);
+    for byte in lines {
+        match byte {
+            b'\n' => words.extend_from_slice(b"; ")?,
+            _ => words.push(*byte)?,
+        }
+    }
+    let count = words.len();
+    words.truncate(count.saturating_sub(2));
+    Ok(words)
+}
+
+/// Why the file of this name is refused, as it stands now; nothing where it can't be opened, or isn't.
+fn words_of<S: System>(
+    alloc: Global,
+    system: &S,
+    settings: Settings,
+    name: &str,
+) -> Result<Option<Vec<u8>>, RunFault> {
+    let Some(file) = system.open(name) else {
+        return Ok(None);
+    };
+    let mut file = Counted::new(file);
+    let mut names = Names::new(alloc);
+    let (keyed, least) = (settings.keyed, settings.at_least);
+    match read_placed(alloc, keyed, least, &mut file, &mut names)? {
+        (History::Refused(refusal), placed) => {
+            let lines = refusal_lines(alloc, refusal, &placed)?;
+            Ok(Some(as_one(alloc, lines.as_slice())?))
+        }
+        _ => Ok(None),
+    }
+}
+
+/// Tells why the file of this name is refused, as it stands now, where there is memory for that.
+pub fn tell_file<S: System>(alloc: Global, system: &mut S, settings: Settings, name: &str)
+    ensures { MayTellRefused S.words system.old (Some name.now) system.new }
+{
+    let Ok(Some(words)) = words_of(alloc, &*system, settings, name) else {
+        return;
+    };
+    if let Ok(words) = std::str::from_utf8(&words) {
+        let _is_told = system.tell(&Message::Refused(name, words));
+    }
+}
