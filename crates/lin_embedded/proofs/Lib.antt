@@ -3,4 +3,4 @@ mod Printed
 mod Told
 pub mod AsBox
 pub mod Reading
-pub mod Asking
+pub mod RecorderAsking

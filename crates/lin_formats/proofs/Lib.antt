@@ -10,7 +10,7 @@ pub mod Newlines
 pub mod Rows
 pub mod Telling
 pub mod Marking
-pub mod Reading
+pub mod PlacesReading
 pub mod Feeding
 pub mod Beginnings
 pub mod Calm

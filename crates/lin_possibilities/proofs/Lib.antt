@@ -1,5 +1,5 @@
 pub mod Showing
-pub mod Listed
+pub mod Listings
 pub mod Taking
 pub mod Overwritten
 pub mod Growing
@@ -9,4 +9,4 @@ mod Comparing
 mod Finding
 mod Permuting
 mod Zips
-mod Telling
+mod OutcomesTelling

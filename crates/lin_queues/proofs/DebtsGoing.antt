@@ -24,7 +24,7 @@ use Rattle.lin_queues.specs.Debts.{Debtor, IsWhole, Stands, Takes, IsAhead, IsOk
 use Rattle.lin_queues.specs.Laws.{BeginningLaw, StartLaw, NoneLaw}
 use Rattle.lin_queues.proofs.DebtLists.{some_same, one_there, contains, contains_or_not}
 use Rattle.lin_queues.proofs.Queue.{IsStep, puts_one, gets_none, gets_one, behind}
-use Rattle.lin_queues.proofs.Taking.{one_place, one_dequeue, one_element, stands_before, taken_ahead, call_of_got, takes_one, taken_ahead_of_none}
+use Rattle.lin_queues.proofs.DebtsTaking.{one_place, one_dequeue, one_element, stands_before, taken_ahead, call_of_got, takes_one, taken_ahead_of_none}
 use Rattle.lin_queues.proofs.Events.{one_longer, begins_earlier, whole_itself, event_on, before_on, call_back, opened, ok_cases, not_yet, invoked_earlier, invoked_ahead, ends_there, event_now}
 use Rattle.lin_queues.proofs.Stepping.{places_stands, one_answer, taken_as, idle_done, idle_nil, follows_quiet}
 use Rattle.lin_queues.proofs.Moves.{done_no_nil, move_early, move_put, move_paid, move_taken, move_taken_early, move_emptied, move_stays}

@@ -22,7 +22,7 @@ use Rattle.lin_order.specs.lemmas.Again.{operation_of}
 use Rattle.lin_events.specs.lemmas.OneMore.{one_open, end_inside, completes, alternates_before}
 use Rattle.lin_queues.specs.Debts.{IsWhole, IsOkWithin, Stands}
 use Rattle.lin_queues.proofs.DebtLists.{contains}
-use Rattle.lin_queues.proofs.Taking.{stands_before}
+use Rattle.lin_queues.proofs.DebtsTaking.{stands_before}
 
 pub get_within : {A : Type 0} (xs ys : List A) (k : ℕ) → k < length xs → slice_get (xs ++ ys) k ≡ slice_get xs k
 get_within [] ys k inside = absurd (omega arith)

@@ -9,7 +9,7 @@ pub mod Going
 pub mod DebtLists
 pub mod Ranks
 pub mod Queue
-pub mod Taking
+pub mod DebtsTaking
 pub mod Events
 pub mod Stepping
 pub mod Moves

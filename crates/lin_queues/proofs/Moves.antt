@@ -12,7 +12,7 @@ use Rattle.lin_order.specs.declared.placed.Placed.{Placed}
 use Rattle.lin_order.specs.Orders.{IsOrder, Places}
 use Rattle.lin_queues.specs.Debts.{Debtor, Takes, IsAhead, IsOkWithin, Follows, IsPut, IsTaken, IsPaid, GainsEarly, LosesEarly, IsEmptied}
 use Rattle.lin_queues.proofs.DebtLists.{in_more, in_more_cases, pairs_less, pairs_other}
-use Rattle.lin_queues.proofs.Taking.{one_element}
+use Rattle.lin_queues.proofs.DebtsTaking.{one_element}
 use Rattle.lin_queues.proofs.Events.{invoked_earlier}
 use Rattle.lin_queues.proofs.Stepping.{one_answer, takes_as, taken_as, idle_done, idle_nil, follows_ok}
 

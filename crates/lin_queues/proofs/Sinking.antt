@@ -13,7 +13,7 @@ use Rattle.lin_order.specs.Orders.{Places}
 use Rattle.lin_queues.specs.Debts.{Debtor, IsWhole, Takes, IsOkWithin, IsOpenDequeue, Owes, Follows, Dominates}
 use Rattle.lin_queues.specs.Laws.{SinkLaw, DominationLaw, AreDue, PaymentLaw, SpareLaw}
 use Rattle.lin_queues.proofs.DebtLists.{stands, one_there, without, pigeons}
-use Rattle.lin_queues.proofs.Taking.{one_element, call_of_got}
+use Rattle.lin_queues.proofs.DebtsTaking.{one_element, call_of_got}
 use Rattle.lin_queues.proofs.Events.{opened}
 use Rattle.lin_queues.proofs.Stepping.{takes_as, idle_nil}
 

@@ -15,7 +15,7 @@ use Rattle.lin_order.specs.lemmas.OneEnd.{one_event}
 use Rattle.lin_order.specs.lemmas.Again.{operation_of}
 use Rattle.lin_queues.specs.Debts.{Debtor, Stands, Takes, IsAhead, IsOkWithin, Follows}
 use Rattle.lin_queues.proofs.DebtLists.{stands, contains}
-use Rattle.lin_queues.proofs.Taking.{one_said, stands_before}
+use Rattle.lin_queues.proofs.DebtsTaking.{one_said, stands_before}
 use Rattle.lin_queues.proofs.Events.{ok_later, ok_earlier, ok_cases, ok_now, not_yet}
 
 -- what an operation stands as

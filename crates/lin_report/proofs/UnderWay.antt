@@ -19,7 +19,7 @@ use Rattle.lin_texts.specs.declared.settings.Settings.{Settings}
 use Rattle.lin_report.specs.declared.commands.Command.{Command}
 use Rattle.lin_report.specs.declared.commands.Command.TheVariants.{Edit, Skipped, Ask, Order, Report, Pull, Refute, Explain, Work}
 use Rattle.lin_report.specs.declared.commands.CommandFault.{CommandFault}
-use Rattle.lin_report.specs.declared.runs.RunState.{RunState}
+use Rattle.lin_report.specs.declared.runs.EditRun.{EditRun}
 use Rattle.lin_texts.specs.declared.faults.RunFault.{RunFault}
 use Rattle.lin_texts.specs.declared.faults.RunFault.TheVariants.{ReadFailed, WriteFailed, OutOfMemory, TooMuch}
 use Rattle.lin_report.proofs.CommandLines.{last_line, line_ends}
@@ -72,7 +72,7 @@ cut_unwritten keyed names names' follow file file' out before line TooMuch other
 
 module _ (keyed : Bool) (start : RunState) (before : Option (List ℕ)) where
   -- some bytes of a line are held
-  pub held_more : (old new : RunState) (left after : Option (List ℕ)) (bytes more : List ℕ) → new ≡ record old { held = new.held }
+  pub held_more : (old new : EditRun) (left after : Option (List ℕ)) (bytes more : List ℕ) → new ≡ record old { held = new.held }
       → ((line : List ℕ) → Holds old line → Holds new (line ++ more)) → All (λ c. c ≢ 10) more
       → IsUnderWay keyed start before old left after bytes → IsUnderWay keyed start before new left after (bytes ++ more)
   held_more old new left after bytes more same holds none so_far = record {
@@ -80,13 +80,13 @@ module _ (keyed : Bool) (start : RunState) (before : Option (List ℕ)) where
     state = so_far.state;
     text = so_far.text;
     rest = so_far.rest ++ more;
-    run = subst (AreReplies keyed start so_far.lines so_far.state so_far.text) (sym (ap (λ (e : RunState). e.status) same)) so_far.run;
+    run = subst (AreReplies keyed start so_far.lines so_far.state so_far.text) (sym (ap (λ (e : EditRun). e.status) same)) so_far.run;
     stands = record {
-      present_is = ap (λ (e : RunState). e.session.present) same ∙ so_far.stands.present_is;
-      names_are = ap (λ (e : RunState). e.names) same ∙ so_far.stands.names_are;
-      once = subst (λ (e : RunState). AreEachOnce e.names) (sym same) so_far.stands.once;
-      sees = subst (λ (e : RunState). AreSeen e.names e.follow so_far.state.bytes so_far.state.put) (sym same) so_far.stands.sees;
-      keyed_is = ap (λ (e : RunState). e.follow.keyed) same ∙ so_far.stands.keyed_is;
+      present_is = ap (λ (e : EditRun). e.session.present) same ∙ so_far.stands.present_is;
+      names_are = ap (λ (e : EditRun). e.names) same ∙ so_far.stands.names_are;
+      once = subst (λ (e : EditRun). AreEachOnce e.names) (sym same) so_far.stands.once;
+      sees = subst (λ (e : EditRun). AreSeen e.names e.follow so_far.state.bytes so_far.state.put) (sym same) so_far.stands.sees;
+      keyed_is = ap (λ (e : EditRun). e.follow.keyed) same ∙ so_far.stands.keyed_is;
       left_is = so_far.stands.left_is;
     };
     consumed = so_far.consumed;
@@ -97,7 +97,7 @@ module _ (keyed : Bool) (start : RunState) (before : Option (List ℕ)) where
   }
 
   -- the line that was held ended, and is carried out
-  pub line_done : (old new : RunState) (left left' after after' : Option (List ℕ)) (bytes : List ℕ) (so_far : IsUnderWay keyed start before old left after bytes)
+  pub line_done : (old new : EditRun) (left left' after after' : Option (List ℕ)) (bytes : List ℕ) (so_far : IsUnderWay keyed start before old left after bytes)
       → IsCarriedOut keyed old new left left' after after' so_far.state so_far.rest → IsUnderWay keyed start before new left' after' (bytes ++ 10 ∷ [])
   line_done old new left left' after after' bytes so_far done =
       let part = file_part keyed so_far.state so_far.rest done.after done.reply done.answer done.replies in
@@ -121,7 +121,7 @@ module _ (keyed : Bool) (start : RunState) (before : Option (List ℕ)) where
       }
 
   -- the lines that were carried out before
-  lines_before : (engine : RunState) (names : List (List ℕ)) (left left' after after' : Option (List ℕ)) (bytes : List ℕ) (is : Type 0)
+  lines_before : (engine : EditRun) (names : List (List ℕ)) (left left' after after' : Option (List ℕ)) (bytes : List ℕ) (is : Type 0)
       (so_far : IsUnderWay keyed start before engine left after bytes) → ReadsPart engine.names names engine.follow left left' is → Keeps after after'
       → AreCarriedOut keyed start so_far.lines left' (Appends before after')
   lines_before engine names left left' after after' bytes is so_far reads keeps = (
@@ -134,7 +134,7 @@ module _ (keyed : Bool) (start : RunState) (before : Option (List ℕ)) where
   )
 
   -- too much was read of the file
-  too_far : (engine : RunState) (names : List (List ℕ)) (left left' after : Option (List ℕ)) (bytes : List ℕ) (is : Type 0)
+  too_far : (engine : EditRun) (names : List (List ℕ)) (left left' after : Option (List ℕ)) (bytes : List ℕ) (is : Type 0)
       (so_far : IsUnderWay keyed start before engine left after bytes) → ReadsPart engine.names names engine.follow left left' is → is → IsReadTooFar start.left left'
   too_far engine names left left' after bytes is so_far reads too_much =
       let size = length-append so_far.state.bytes reads.1 in
@@ -142,7 +142,7 @@ module _ (keyed : Bool) (start : RunState) (before : Option (List ℕ)) where
       (so_far.state.bytes ++ reads.1, Consumes-trans start.left left left' so_far.state.bytes reads.1 so_far.consumed reads.2, omega arith)
 
   -- these lines and the one that is held were carried out, and a beginning of the last reply is written
-  lines_with : (engine : RunState) (names : List (List ℕ)) (left left' after after' : Option (List ℕ)) (bytes : List ℕ) (so_far : IsUnderWay keyed start before engine left after bytes)
+  lines_with : (engine : EditRun) (names : List (List ℕ)) (left left' after after' : Option (List ℕ)) (bytes : List ℕ) (so_far : IsUnderWay keyed start before engine left after bytes)
       → IsCutShort keyed engine.names names engine.follow left left' after after' so_far.state so_far.rest WriteFailed
       → AreCarriedOut keyed start (so_far.lines ++ so_far.rest ∷ []) left' (IsWritten WriteFailed before after')
   lines_with engine names left left' after after' bytes so_far cut = (
@@ -159,7 +159,7 @@ module _ (keyed : Bool) (start : RunState) (before : Option (List ℕ)) where
   )
 
   -- the lines before the one that is held are whole
-  begun : (engine : RunState) (left after cleft : Option (List ℕ)) (bytes others : List ℕ) (so_far : IsUnderWay keyed start before engine left after bytes)
+  begun : (engine : EditRun) (left after cleft : Option (List ℕ)) (bytes others : List ℕ) (so_far : IsUnderWay keyed start before engine left after bytes)
       → (fault : RunFault) → IsLeftFor keyed fault (so_far.rest ++ others) → AreRead keyed fault (bytes ++ others) cleft so_far.lines
   begun engine left after cleft bytes others so_far fault leaves =
       inl (
@@ -170,7 +170,7 @@ module _ (keyed : Bool) (start : RunState) (before : Option (List ℕ)) where
       )
 
   -- and that one is, where it ended
-  begun_with : (engine : RunState) (left after cleft : Option (List ℕ)) (bytes others : List ℕ) (so_far : IsUnderWay keyed start before engine left after bytes)
+  begun_with : (engine : EditRun) (left after cleft : Option (List ℕ)) (bytes others : List ℕ) (so_far : IsUnderWay keyed start before engine left after bytes)
       → AreRead keyed WriteFailed (bytes ++ 10 ∷ others) cleft (so_far.lines ++ so_far.rest ∷ [])
   begun_with engine left after cleft bytes others so_far =
       inl (
@@ -181,7 +181,7 @@ module _ (keyed : Bool) (start : RunState) (before : Option (List ℕ)) where
       )
 
   -- a fault came at the line that was held, or at the one behind it
-  pub cut_within : (engine : RunState) (names : List (List ℕ)) (left left' after after' cleft : Option (List ℕ)) (bytes others : List ℕ) (so_far : IsUnderWay keyed start before engine left after bytes)
+  pub cut_within : (engine : EditRun) (names : List (List ℕ)) (left left' after after' cleft : Option (List ℕ)) (bytes others : List ℕ) (so_far : IsUnderWay keyed start before engine left after bytes)
       → (fault : RunFault) → IsCutShort keyed engine.names names engine.follow left left' after after' so_far.state so_far.rest fault
       → IsCutOff keyed start before left' after' cleft (bytes ++ 10 ∷ others) fault
   cut_within engine names left left' after after' cleft bytes others so_far ReadFailed cut =
@@ -194,7 +194,7 @@ module _ (keyed : Bool) (start : RunState) (before : Option (List ℕ)) where
       ((so_far.lines ++ so_far.rest ∷ [], begun_with engine left after cleft bytes others so_far, lines_with engine names left left' after after' bytes so_far cut), λ e. absurd (other_fault e))
 
   -- memory was refused for a line
-  pub cut_holding : (engine : RunState) (left after cleft : Option (List ℕ)) (bytes others : List ℕ) → IsUnderWay keyed start before engine left after bytes
+  pub cut_holding : (engine : EditRun) (left after cleft : Option (List ℕ)) (bytes others : List ℕ) → IsUnderWay keyed start before engine left after bytes
       → IsCutOff keyed start before left after cleft (bytes ++ others) OutOfMemory
   cut_holding engine left after cleft bytes others so_far = (
     (
@@ -206,13 +206,13 @@ module _ (keyed : Bool) (start : RunState) (before : Option (List ℕ)) where
   )
 
   -- the lines are all, where the bytes end
-  all_lines : (engine : RunState) (left after : Option (List ℕ)) (bytes : List ℕ) (so_far : IsUnderWay keyed start before engine left after bytes)
+  all_lines : (engine : EditRun) (left after : Option (List ℕ)) (bytes : List ℕ) (so_far : IsUnderWay keyed start before engine left after bytes)
       → lines_of bytes ≡ so_far.lines ++ lines_of so_far.rest
   all_lines engine left after bytes so_far =
       ap lines_of (sym (append-nil bytes)) ∙ so_far.begins [] ∙ ap (λ r. so_far.lines ++ lines_of r) (append-nil so_far.rest)
 
   -- the run ends where nothing is held
-  pub finished : (engine : RunState) (left after : Option (List ℕ)) (bytes : List ℕ) (status : Status) (so_far : IsUnderWay keyed start before engine left after bytes)
+  pub finished : (engine : EditRun) (left after : Option (List ℕ)) (bytes : List ℕ) (status : Status) (so_far : IsUnderWay keyed start before engine left after bytes)
       → so_far.rest ≡ [] → status ≡ unwrap_or engine.status Yes → IsFinished keyed start before left after bytes status
   finished engine left after bytes status so_far none is =
       let all : lines_of bytes ≡ so_far.lines = all_lines engine left after bytes so_far ∙ ap (λ r. so_far.lines ++ lines_of r) none ∙ append-nil so_far.lines in (
@@ -226,13 +226,13 @@ module _ (keyed : Bool) (start : RunState) (before : Option (List ℕ)) where
       )
 
   -- the last line
-  with_last : (engine : RunState) (left after : Option (List ℕ)) (bytes : List ℕ) (so_far : IsUnderWay keyed start before engine left after bytes) → 0 < length so_far.rest
+  with_last : (engine : EditRun) (left after : Option (List ℕ)) (bytes : List ℕ) (so_far : IsUnderWay keyed start before engine left after bytes) → 0 < length so_far.rest
       → lines_of bytes ≡ so_far.lines ++ so_far.rest ∷ []
   with_last engine left after bytes so_far some =
       all_lines engine left after bytes so_far ∙ ap (λ ls. so_far.lines ++ ls) (last_line so_far.rest some so_far.unended)
 
   -- or where the last line is carried out
-  pub finished_with : (old new : RunState) (left left' after after' : Option (List ℕ)) (bytes : List ℕ) (status : Status) (so_far : IsUnderWay keyed start before old left after bytes)
+  pub finished_with : (old new : EditRun) (left left' after after' : Option (List ℕ)) (bytes : List ℕ) (status : Status) (so_far : IsUnderWay keyed start before old left after bytes)
       → 0 < length so_far.rest → IsCarriedOut keyed old new left left' after after' so_far.state so_far.rest → status ≡ unwrap_or new.status Yes
       → IsFinished keyed start before left' after' bytes status
   finished_with old new left left' after after' bytes status so_far some done is =
@@ -248,7 +248,7 @@ module _ (keyed : Bool) (start : RunState) (before : Option (List ℕ)) where
       )
 
   -- a fault came at the last line
-  pub cut_at_end : (engine : RunState) (names : List (List ℕ)) (left left' after after' behind : Option (List ℕ)) (bytes : List ℕ) (so_far : IsUnderWay keyed start before engine left after bytes)
+  pub cut_at_end : (engine : EditRun) (names : List (List ℕ)) (left left' after after' behind : Option (List ℕ)) (bytes : List ℕ) (so_far : IsUnderWay keyed start before engine left after bytes)
       → 0 < length so_far.rest → IsAtEnd behind → (fault : RunFault) → IsCutShort keyed engine.names names engine.follow left left' after after' so_far.state so_far.rest fault
       → IsCutOff keyed start before left' after' behind bytes fault
   cut_at_end engine names left left' after after' behind bytes so_far some end ReadFailed cut =
@@ -265,7 +265,7 @@ module _ (keyed : Bool) (start : RunState) (before : Option (List ℕ)) where
   unended_with_none rest none = subst (All (λ c. c ≢ 10)) (sym (append-nil rest)) none
 
   -- the reader of commands failed behind the bytes
-  pub unread_further : (engine : RunState) (left after behind : Option (List ℕ)) (bytes : List ℕ) → IsUnderWay keyed start before engine left after bytes
+  pub unread_further : (engine : EditRun) (left after behind : Option (List ℕ)) (bytes : List ℕ) → IsUnderWay keyed start before engine left after bytes
       → (lines : List (List ℕ)) × AreRead keyed ReadFailed (bytes ++ []) behind lines × AreCarriedOut keyed start lines left (Appends before after)
   unread_further engine left after behind bytes so_far = (
     so_far.lines,
@@ -274,7 +274,7 @@ module _ (keyed : Bool) (start : RunState) (before : Option (List ℕ)) where
   )
 
   -- the bytes are too many
-  pub stopped : (engine : RunState) (left after behind : Option (List ℕ)) (bytes others : List ℕ) → IsUnderWay keyed start before engine left after bytes
+  pub stopped : (engine : EditRun) (left after behind : Option (List ℕ)) (bytes others : List ℕ) → IsUnderWay keyed start before engine left after bytes
       → (lines : List (List ℕ)) × AreRead keyed TooMuch (bytes ++ others) behind lines × AreCarriedOut keyed start lines left (Appends before after)
   stopped engine left after behind bytes others so_far = (
     so_far.lines,
@@ -283,7 +283,7 @@ module _ (keyed : Bool) (start : RunState) (before : Option (List ℕ)) where
   )
 
 -- how a run ends at the end of its commands
-pub run_ends : (settings : Settings) (engine : RunState) (file left file' commands commands' out after out' : Option (List ℕ)) (bytes : List ℕ) (r : Result Status RunFault)
+pub run_ends : (settings : Settings) (engine : EditRun) (file left file' commands commands' out after out' : Option (List ℕ)) (bytes : List ℕ) (r : Result Status RunFault)
     → Consumes commands commands' bytes → IsAtEnd commands' → length bytes ≤ 2 ^ 40 → IsUnderWay settings.keyed (start_of settings file) out engine left after bytes
     → IfOk r (λ status. (start : RunState) (before : Option (List ℕ)) (bs : List ℕ) → IsUnderWay settings.keyed start before engine left after bs → IsFinished settings.keyed start before file' out' bs status)
     → IfErr r (λ fault. (start : RunState) (before behind : Option (List ℕ)) (bs : List ℕ) → IsAtEnd behind → IsUnderWay settings.keyed start before engine left after bs

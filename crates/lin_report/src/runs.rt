@@ -34,7 +34,7 @@ const MOST: u64 = 1_099_511_627_776;
 
 /// What a run keeps from one line to the next.
 #[derive(Drop)]
-pub struct RunState {
+pub struct EditRun {
     session: Session,
     // The spellings of the words that were read, of commands and of the file.
     names: Names,
@@ -117,13 +117,13 @@ fn hold(held: &mut Vec<u8>, more: &[u8]) -> Result<(), OutOfMemory>
     Ok(())
 }
 
-impl RunState {
+impl EditRun {
     /// Nothing was taken in.
-    fn new(alloc: Global, settings: Settings) -> RunState
+    fn new(alloc: Global, settings: Settings) -> EditRun
         requires { (1 ≤ settings.budget) × (settings.budget ≤ 1000000) }
         ensures { (left before : Option (List ℕ)) → IsUnderWay settings.keyed (start_of settings left) before result left before [] }
     {
-        RunState {
+        EditRun {
             session: open(alloc, settings),
             names: Names::new(alloc),
             follow: Follow::new(alloc, settings.keyed),
@@ -297,6 +297,6 @@ pub fn run<R: Read, C: Read, W: Write>(
     ensures read_counts { CountsOne (is_read_failed result) (failures_of file.old) (failures_of file.new) (failures_of commands.old) (failures_of commands.new) }
     ensures write_counts { Counts (is_write_failed result) (failures_of out.old) (failures_of out.new) }
 {
-    let mut engine = RunState::new(alloc, settings);
+    let mut engine = EditRun::new(alloc, settings);
     engine.carry_out_all(alloc, settings, file, commands, out)
 }

@@ -9,13 +9,13 @@ use std::fs::File;
 use std::io::{Printer, Stdin};
 use std::process::ExitCode;
 use std::{env, io};
-use watched::{Output, Progress, Watched};
+use watched::{Output, ProgressLine, Watched};
 
 /// The system that the program runs on. Nothing is known of it but what it answers.
 #[derive(Drop)]
 struct Host<'a> {
     runtime: &'a HostRuntime,
-    progress: &'a Progress<'a>,
+    progress: &'a ProgressLine<'a>,
 }
 
 impl<'a> System for Host<'a> {
@@ -62,7 +62,7 @@ impl<'a> System for Host<'a> {
 
 fn main(rt: HostRuntime) -> ExitCode {
     let alloc = rt.alloc();
-    let progress = Progress::new(&rt);
+    let progress = ProgressLine::new(&rt);
     let mut host = Host {
         runtime: &rt,
         progress: &progress,

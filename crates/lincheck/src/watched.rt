@@ -15,15 +15,15 @@ const LONGEST_NAME: usize = 40;
 
 /// The line of standard error that tells how far a reading is. Errors of standard error are ignored.
 #[derive(Drop)]
-pub struct Progress<'a> {
+pub struct ProgressLine<'a> {
     runtime: &'a HostRuntime,
     is_shown: Cell<bool>,
 }
 
-impl<'a> Progress<'a> {
+impl<'a> ProgressLine<'a> {
     /// A line that isn't shown yet.
-    pub fn new(runtime: &'a HostRuntime) -> Progress<'a> {
-        Progress {
+    pub fn new(runtime: &'a HostRuntime) -> ProgressLine<'a> {
+        ProgressLine {
             runtime,
             is_shown: Cell::new(false),
         }
@@ -51,7 +51,7 @@ impl<'a> Progress<'a> {
 /// A reading that is watched.
 #[derive(Drop)]
 struct Watch<'a> {
-    progress: &'a Progress<'a>,
+    progress: &'a ProgressLine<'a>,
     name: String,
     bytes: u64,
     // When the reading was begun, or last told of; none where none is under way.
@@ -92,7 +92,7 @@ pub struct Watched<'a, F> {
 
 impl<'a, F> Watched<'a, F> {
     /// The file of this name, watched where standard error is a terminal and there is memory for the name.
-    pub fn new(progress: &'a Progress<'a>, name: &str, file: F) -> Watched<'a, F> {
+    pub fn new(progress: &'a ProgressLine<'a>, name: &str, file: F) -> Watched<'a, F> {
         let watch = if progress.runtime.stderr().is_terminal() {
             watch_of(progress, name)
         } else {
@@ -103,7 +103,7 @@ impl<'a, F> Watched<'a, F> {
 }
 
 /// The watch of a reading that isn't begun, of the file of this name.
-fn watch_of<'a>(progress: &'a Progress<'a>, name: &str) -> Option<Watch<'a>> {
+fn watch_of<'a>(progress: &'a ProgressLine<'a>, name: &str) -> Option<Watch<'a>> {
     let is_told = name.len() <= LONGEST_NAME && !name.chars().any(|c| c.is_control());
     let told = if is_told { name } else { "the file" };
     Some(Watch {
@@ -135,13 +135,13 @@ impl<'a, F: Read> Read for Watched<'a, F> {
 /// A writer, before whose writes the line that tells of a reading is wiped.
 #[derive(Drop)]
 pub struct Output<'a, W> {
-    progress: &'a Progress<'a>,
+    progress: &'a ProgressLine<'a>,
     writer: W,
 }
 
 impl<'a, W> Output<'a, W> {
     /// The writer beside this line.
-    pub fn new(progress: &'a Progress<'a>, writer: W) -> Output<'a, W> {
+    pub fn new(progress: &'a ProgressLine<'a>, writer: W) -> Output<'a, W> {
         Output { progress, writer }
     }
 }

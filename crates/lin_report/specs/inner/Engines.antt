@@ -12,7 +12,7 @@ use Rattle.lin_formats.specs.Intakes.{AreSeen}
 use Rattle.lin_formats.specs.Verdicts.{IsReadTooFar}
 use Rattle.lin_texts.specs.declared.status.Status.{Status}
 use Rattle.lin_texts.specs.declared.status.Status.TheVariants.{Yes}
-use Rattle.lin_report.specs.declared.runs.RunState.{RunState}
+use Rattle.lin_report.specs.declared.runs.EditRun.{EditRun}
 use Rattle.lin_texts.specs.declared.faults.RunFault.{RunFault}
 use Rattle.lin_texts.specs.declared.faults.RunFault.TheVariants.{ReadFailed, WriteFailed, TooMuch}
 
@@ -27,11 +27,11 @@ ReadsPart names names' follow old new is_too_much = AreMore names names' × (par
     × (is_too_much → (bytes : List ℕ) (put : List Event) → AreSeen names follow bytes put → 2 ^ 40 < length bytes + length part)
 
 -- the line that is held, as far as a line may go and one byte more
-abbrev pub Holds : RunState → List ℕ → Type 0
+abbrev pub Holds : EditRun → List ℕ → Type 0
 Holds engine line = engine.held.items ≡ take (longest_line + 1) line
 
 -- the line is carried out, and its reply written
-pub record IsCarriedOut (keyed : Bool) (old new : RunState) (file file' out out' : Option (List ℕ)) (before : RunState) (line : List ℕ) : Type 0 where
+pub record IsCarriedOut (keyed : Bool) (old new : EditRun) (file file' out out' : Option (List ℕ)) (before : RunState) (line : List ℕ) : Type 0 where
   pub after : RunState
   pub reply : List ℕ
   pub answer : Option Status
@@ -48,7 +48,7 @@ IsCutShort keyed names names' follow file file' out out' before line WriteFailed
 IsCutShort keyed names names' follow file file' out out' before line fault = ReadsPart names names' follow file file' (fault ≡ TooMuch) × Keeps out out' × (fault ≡ ReadFailed → SaysPull keyed line)
 
 -- The bytes were taken in: their lines are carried out, and the replies are written; what stands behind the last byte 10 is held.
-pub record IsUnderWay (keyed : Bool) (start : RunState) (before : Option (List ℕ)) (engine : RunState) (left after : Option (List ℕ)) (bytes : List ℕ) : Type 0 where
+pub record IsUnderWay (keyed : Bool) (start : RunState) (before : Option (List ℕ)) (engine : EditRun) (left after : Option (List ℕ)) (bytes : List ℕ) : Type 0 where
   pub lines : List (List ℕ)
   pub state : RunState
   pub text : List ℕ

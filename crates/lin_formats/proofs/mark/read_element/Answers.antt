@@ -3,7 +3,7 @@ use Rattle.lin_edn.specs.Grammar.{Spells, ShortBlanks, IsUnfinished, IsBlankText
 use Rattle.lin_edn.specs.Reading.{Refuses}
 use Rattle.lin_edn.specs.View.{view}
 use Rattle.lin_formats.specs.Places.{place_at}
-use Rattle.lin_formats.proofs.Reading.{IsPlaced, front_element, front_bad, front_unfinished, front_blank, front_refused}
+use Rattle.lin_formats.proofs.PlacesReading.{IsPlaced, front_element, front_bad, front_unfinished, front_blank, front_refused}
 use Rattle.lin_formats.proofs.mark.read_element.Goals as goal
 
 pub returns-in-Sound-clause-passed : goal.returns-in-Sound-clause-passed

@@ -2,7 +2,7 @@ use Rattle.std.proofs.Common.{◌+◌, ℕ, sym, subst, ap, ◌∙◌}
 use Rattle.lin_edn.specs.Grammar.{Spells}
 use Rattle.lin_formats.specs.Places.{place_at}
 use Rattle.lin_formats.proofs.Marking.{lone_sound, lone_unsound, marked_sound, marked_bad}
-use Rattle.lin_formats.proofs.Reading.{IsPlaced, front_element, front_bad}
+use Rattle.lin_formats.proofs.PlacesReading.{IsPlaced, front_element, front_bad}
 use Rattle.lin_formats.proofs.mark.read_map.Goals as goal
 
 pub returns-then-branch-clause-front : goal.returns-then-branch-clause-front

@@ -2,7 +2,7 @@ use Rattle.std.proofs.Common.{refl, arith}
 use Rattle.lin_names.specs.lemmas.Begins.{begins_itself, begins_on}
 use Rattle.lin_formats.proofs.Found.{rest_is}
 use Rattle.lin_formats.proofs.Marking.{put_again, put_none, reading_before}
-use Rattle.lin_formats.proofs.Reading.{end_fits, one_front, the_end, up_more}
+use Rattle.lin_formats.proofs.PlacesReading.{end_fits, one_front, the_end, up_more}
 use Rattle.lin_formats.proofs.mark.read_on.Goals as goal
 
 pub elements-init : goal.elements-init

@@ -2,7 +2,7 @@ use Rattle.std.proofs.Common.{◌-◌, length}
 use Rattle.lin_names.specs.Names.{Begins}
 use Rattle.lin_history.specs.Reading.{Reading, IsReading}
 use Rattle.lin_formats.specs.inner.Marks.{IsPutBehind}
-use Rattle.lin_formats.proofs.Reading.{IsReadUp, IsUp}
+use Rattle.lin_formats.proofs.PlacesReading.{IsReadUp, IsUp}
 use Rattle.lin_formats.proofs.mark.read_on.Given as goal
 
 abbrev pub invariant-elements : goal.invariant-elements

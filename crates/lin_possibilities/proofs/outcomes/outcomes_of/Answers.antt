@@ -11,7 +11,7 @@ use Rattle.lin_possibilities.specs.Words.{reply_words}
 use Rattle.lin_possibilities.specs.inner.OutcomesTelling.{AreTold, Leads}
 use Rattle.lin_possibilities.specs.declared.listing.Leading.{Leading}
 use Rattle.lin_possibilities.specs.declared.told.Told.{Told}
-use Rattle.lin_possibilities.proofs.Telling.{all_are, all_told, all_words, listing_from}
+use Rattle.lin_possibilities.proofs.OutcomesTelling.{all_are, all_told, all_words, listing_from}
 use Rattle.lin_possibilities.proofs.outcomes.outcomes_of.Goals as goal
 
 pub returns : goal.returns

@@ -11,7 +11,7 @@ use Rattle.lin_possibilities.specs.Outcomes.{AreStates}
 use Rattle.lin_possibilities.specs.Ranks.{state_rank}
 use Rattle.lin_possibilities.specs.Texts.{was_text}
 use Rattle.lin_possibilities.specs.declared.told.Told.{Told}
-use Rattle.lin_possibilities.proofs.Telling.{all_are, all_told, all_words}
+use Rattle.lin_possibilities.proofs.OutcomesTelling.{all_are, all_told, all_words}
 use Rattle.lin_possibilities.proofs.texts.put_was.Goals as goal
 
 pub returns : goal.returns

@@ -2,7 +2,7 @@ use Rattle.std.proofs.Common.{◌≡◌, ◌<◌, length, get_or, inl, inr, sym,
 use Rattle.std.proofs.lemmas.Bool.{cases_lt}
 use Rattle.std.proofs.lemmas.List.{get_or_read}
 use Rattle.lin_possibilities.specs.declared.told.Told.{Told}
-use Rattle.lin_possibilities.proofs.Telling.{words_at, words_long, words_same}
+use Rattle.lin_possibilities.proofs.OutcomesTelling.{words_at, words_long, words_same}
 use Rattle.lin_possibilities.proofs.told.are_same_words.Goals as goal
 
 pub loop-at-preserved : goal.loop-at-preserved

@@ -7,7 +7,7 @@ use Rattle.lin_possibilities.specs.Possible.{Answers}
 use Rattle.lin_possibilities.specs.Ranks.{members_in, reply_rank}
 use Rattle.lin_possibilities.specs.Words.{reply_words}
 use Rattle.lin_possibilities.specs.inner.OutcomesTelling.{IsTold}
-use Rattle.lin_possibilities.proofs.Telling.{told_in_order}
+use Rattle.lin_possibilities.proofs.OutcomesTelling.{told_in_order}
 use Rattle.lin_possibilities.proofs.told.replies_told.Goals as goal
 
 pub returns : goal.returns

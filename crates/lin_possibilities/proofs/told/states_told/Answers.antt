@@ -5,7 +5,7 @@ use Rattle.lin_possibilities.specs.Possible.{LeavesIn}
 use Rattle.lin_tables.specs.Values.{state_text}
 use Rattle.lin_possibilities.specs.Ranks.{state_rank}
 use Rattle.lin_possibilities.specs.inner.OutcomesTelling.{IsTold}
-use Rattle.lin_possibilities.proofs.Telling.{told_in_order}
+use Rattle.lin_possibilities.proofs.OutcomesTelling.{told_in_order}
 use Rattle.lin_possibilities.proofs.told.states_told.Goals as goal
 
 pub returns : goal.returns

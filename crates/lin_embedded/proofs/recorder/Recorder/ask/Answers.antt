@@ -3,7 +3,7 @@ use Rattle.std.proofs.lemmas.Result.{IfOk-from_err, IfOk-weaker}
 use Rattle.lin_answers.specs.Answers.{IsVerdict}
 use Rattle.lin_answers.specs.Edits.{Present}
 use Rattle.lin_answers.specs.declared.answers.Scope.TheVariants.{Whole}
-use Rattle.lin_embedded.proofs.Asking.{asked}
+use Rattle.lin_embedded.proofs.RecorderAsking.{asked}
 use Rattle.lin_embedded.proofs.Reading.{all_brought, read_asked, saying}
 use Rattle.lin_embedded.proofs.recorder.Recorder.ask.Goals as goal
 

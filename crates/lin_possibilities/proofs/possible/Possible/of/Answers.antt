@@ -12,7 +12,7 @@ use Rattle.lin_members.specs.Listed.{IsListingOf}
 use Rattle.lin_possibilities.specs.After.{IsAfter}
 use Rattle.lin_possibilities.specs.Running.{IsKnown, kind_of}
 use Rattle.lin_possibilities.specs.lemmas.Ticks.{ticked_next, ticked_none}
-use Rattle.lin_possibilities.proofs.Listed.{listing_after}
+use Rattle.lin_possibilities.proofs.Listings.{listing_after}
 use Rattle.lin_possibilities.proofs.possible.Possible.of.Goals as goal
 use Rattle.lin_possibilities.proofs.possible.Possible.of.Goals.{In_ok-members, In_ok-take_in, In_ok-told}
 

@@ -3,7 +3,7 @@ use Rattle.std.proofs.lemmas.List.{length-take-le}
 use Rattle.std.proofs.KnownBytes.{Consumes-kept, Consumes-nil, Consumes-trans}
 use Rattle.lin_formats.specs.lemmas.Reading.{consumed_end, longer}
 use Rattle.lin_report.proofs.UnderWay.{not_too_much, run_cut, run_ends, stopped, unread_further}
-use Rattle.lin_report.proofs.runs.RunState.carry_out_all.Goals as goal
+use Rattle.lin_report.proofs.runs.EditRun.carry_out_all.Goals as goal
 
 pub pieces-init : goal.pieces-init
 pieces-init g c = record {

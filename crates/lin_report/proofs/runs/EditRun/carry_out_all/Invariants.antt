@@ -3,7 +3,7 @@ use Rattle.std.specs.Io.KnownBytes.{Consumes}
 use Rattle.lin_formats.specs.Devices.{device_of, failures_of}
 use Rattle.lin_report.specs.inner.Engines.{IsUnderWay}
 use Rattle.lin_report.specs.Runs.{start_of}
-use Rattle.lin_report.proofs.runs.RunState.carry_out_all.Given as goal
+use Rattle.lin_report.proofs.runs.EditRun.carry_out_all.Given as goal
 
 abbrev pub invariant-pieces : goal.invariant-pieces
 invariant-pieces g l = record {

@@ -4,7 +4,7 @@ use Rattle.lin_texts.specs.declared.faults.RunFault.TheVariants.{OutOfMemory}
 use Rattle.lin_report.proofs.CommandLines.{around_end, none_between, up_to, with_end}
 use Rattle.lin_report.proofs.Refusals.{passed_on}
 use Rattle.lin_report.proofs.UnderWay.{cut_holding, cut_within, held_more, line_done}
-use Rattle.lin_report.proofs.runs.RunState.take_in.Goals as goal
+use Rattle.lin_report.proofs.runs.EditRun.take_in.Goals as goal
 
 pub returns-in_err-hold-clause-cut : goal.returns-in_err-hold-clause-cut
 returns-in_err-hold-clause-cut g c =

@@ -2,7 +2,7 @@ use Rattle.std.proofs.Common.{◌≡◌, ◌≤◌, ◌-◌, ◌++◌, ℕ, List
 use Rattle.lin_formats.specs.Devices.{device_of, failures_of}
 use Rattle.lin_report.specs.inner.Engines.{IsUnderWay}
 use Rattle.lin_report.specs.Runs.{RunState}
-use Rattle.lin_report.proofs.runs.RunState.take_in.Given as goal
+use Rattle.lin_report.proofs.runs.EditRun.take_in.Given as goal
 
 abbrev pub invariant-lines : goal.invariant-lines
 invariant-lines g l = record {

@@ -2,7 +2,7 @@ use Rattle.std.proofs.Common.{◌≡◌, ◌<◌, length, arith}
 use Rattle.lin_report.proofs.CommandLines.{kept_none, kept_some}
 use Rattle.lin_report.proofs.Refusals.{passed_on}
 use Rattle.lin_report.proofs.UnderWay.{cut_at_end, finished, finished_with}
-use Rattle.lin_report.proofs.runs.RunState.finish.Goals as goal
+use Rattle.lin_report.proofs.runs.EditRun.finish.Goals as goal
 
 pub returns-then-length-eq0-clause-done : goal.returns-then-length-eq0-clause-done
 returns-then-length-eq0-clause-done g c = λ start before bytes so_far.

@@ -4,7 +4,7 @@ use Rattle.lin_names.specs.Names.{AreEachOnce}
 use Rattle.lin_report.proofs.Pulling.{no_names}
 use Rattle.lin_report.specs.Runs.{start_of}
 use Rattle.lin_report.specs.Runs.AreReplies.{nothing}
-use Rattle.lin_report.proofs.runs.RunState.new.Goals as goal
+use Rattle.lin_report.proofs.runs.EditRun.new.Goals as goal
 
 pub returns : goal.returns
 returns c = λ left before. record {

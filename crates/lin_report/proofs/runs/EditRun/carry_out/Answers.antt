@@ -1,7 +1,7 @@
 use Rattle.std.proofs.Common.{Err, ap, ◌∙◌}
 use Rattle.lin_report.proofs.Refusals.{passed_on}
 use Rattle.lin_report.proofs.UnderWay.{cut_unwritten}
-use Rattle.lin_report.proofs.runs.RunState.carry_out.Goals as goal
+use Rattle.lin_report.proofs.runs.EditRun.carry_out.Goals as goal
 
 pub returns-in-Err-clause-cut : goal.returns-in-Err-clause-cut
 returns-in-Err-clause-cut g c = λ before line stands holds.
