@@ -272,8 +272,9 @@ class Run:
 
     def run(self, words, commands=''):
         done = subprocess.run([self.program] + words, input=commands, cwd=self.folder, capture_output=True, text=True)
-        if done.stderr or done.stdout and not done.stdout.endswith('\n'):
-            raise Wrong('the last line has no end, or there is something on standard error: %s' % done.stderr)
+        told = 'lincheck: FILE: %s\n' % '; '.join(self.refusal[1:]) if self.refusal is not None and words[0] == 'check' else ''
+        if done.stderr != told or done.stdout and not done.stdout.endswith('\n'):
+            raise Wrong('the last line has no end, or standard error has something else than is wanted there: %s' % done.stderr)
         return done.stdout.split('\n')[:-1], done.returncode
 
     def options(self, budget):

@@ -29,6 +29,7 @@ PROGRAM = os.path.join(HERE, "..", "crates", "lincheck", "out", "lincheck")
 FAULT = "lincheck: 3 OutOfMemory\n"
 NOT_READ, NOT_WRITTEN = "lincheck: 1 ReadFailed\n", "lincheck: 2 WriteFailed\n"
 FAILED = 6
+REFUSED = 4  # the status of a run that refuses a file or an order
 # In a session with searches: how many growths at either end of a command are refused, the distance between, and how many questions do without.
 ENDS, DISTANCE, DONE_WITHOUT = 32, 61, 8
 QUESTIONS = ("ask", "order", "report", "refute", "explain")
@@ -314,6 +315,8 @@ def devices_of(program, folder, words, recording, script):
         if not told:
             return None if (written, ending) == (wanted, status) else (written, ending)
         is_right = ending == FAILED and written in [front + NOT_READ for front in fronts_of(told, piece, recording, script, number)]
+        # (behind a refusal the file is read once more, for a note: a read that fails then has nothing told)
+        is_right = is_right or status == REFUSED and (written, ending) == (wanted, status)
         return told if is_right else (written, ending)
 
     def failed_write(piece, number, error, on):

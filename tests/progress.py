@@ -134,7 +134,11 @@ class Case:
     def refused(self):
         """A history that is refused before its end, where standard output is the terminal too."""
         _, shown, status = run_on_terminal([self.program, 'check', self.fifo(FAULTY)], whole=True)
-        self.see((self.see_told(shown)[1].replace(b'\r\n', b'\n'), b'', status), FAULTY)
+        rest = self.see_told(shown)[1].replace(b'\r\n', b'\n')
+        wanted = run([self.program, 'check', self.file(FAULTY)], b'')
+        # (the note is made from the file read once more, which a pipe doesn't give)
+        if not wanted[0] or not rest.startswith(wanted[0]) or status != wanted[2] or not wanted[1].startswith(b'lincheck: '):
+            raise Wrong('%r instead of %r' % ((rest, status), wanted))
 
     def pulled(self):
         """Commands, the last of which finds the file at its end."""
