@@ -332,8 +332,9 @@ def devices_of(program, folder, words, recording, script):
     with ThreadPoolExecutor(os.cpu_count()) as pool:
         for call, said in calls:
             # Each call fails in turn, up to a run that has no such call.
-            most = 4 + (len(text) + len(recording) * len(script) if call is failed_read else len(wanted)) // said[0]
-            ends = list(pool.map(lambda number: call(said[0], number, *said[1:]), range(1, most + len(script) * 2)))
+            readings = len(script) * (2 if status == REFUSED else 1)
+            most = 4 + (len(text) + len(recording) * readings if call is failed_read else len(wanted)) // said[0]
+            ends = list(pool.map(lambda number: call(said[0], number, *said[1:]), range(1, most + readings * 2)))
             count = ends.index(None) if None in ends else len(ends)
             stopped += count
             for number, ended in enumerate(ends, 1):
