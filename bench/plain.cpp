@@ -1,6 +1,6 @@
-// The best plain algorithm that we know for registers, with nothing proved: just-in-time linearization (Lowe 2017), by key. A configuration
+// The best plain algorithm that we know for registers, with compare-and-set or without, with nothing proved: just-in-time linearization (Lowe 2017), by key. A configuration
 // is which of the open operations are placed, a mask, and the value. Each ok is given to its invocation ahead of the run, so a read is
-// placed as soon as the value is its own, which loses no order, and a write only where an ok asks for its operation.
+// placed as soon as the value is its own, which loses no order, and an update only where an ok asks for its operation.
 // It reads a map a line with integers and nil for values, processes and keys from 0 on, and at most 64 open operations of a key.
 // usage: plain [--keyed] [--again N] FILE   (--again: decides N times more, and prints the seconds of one)
 #include <algorithm>
@@ -22,11 +22,13 @@ enum class Type : char { Invoke, Ok, Fail, Info };
 
 struct Event {
     Type type;
-    bool is_write;
+    bool is_write; // or a compare-and-set
+    bool is_set;
     bool is_asked = false; // a read that is never ok asks for nothing
     uint8_t slot = 0;
     uint32_t key = 0;
-    Value value = NIL;
+    Value value = NIL; // what a read finds, or an update leaves
+    Value from = NIL;  // what a compare-and-set finds
 };
 
 struct Configuration {
@@ -42,8 +44,8 @@ struct Hash {
 };
 
 struct Register {
-    uint64_t reads = 0, writes = 0;
-    Value values[64];
+    uint64_t reads = 0, writes = 0, sets = 0; // compare-and-sets are writes too
+    Value values[64], from[64];
     std::vector<Configuration> all{{0, NIL}}, next;
     std::unordered_set<Configuration, Hash> known;
 
@@ -65,6 +67,8 @@ struct Register {
 
     void invoke(const Event &event) {
         values[event.slot] = event.value;
+        from[event.slot] = event.from;
+        if (event.is_set) sets |= 1ull << event.slot;
         (event.is_write ? writes : reads) |= 1ull << event.slot;
         if (!event.is_write)
             for (auto &one : all) one = with_reads(one);
@@ -82,6 +86,7 @@ struct Register {
             }
             for (uint64_t left = writes & ~one.placed; left; left &= left - 1) {
                 const int write = __builtin_ctzll(left);
+                if (sets >> write & 1 && from[write] != one.value) continue;
                 add(with_reads({one.placed | 1ull << write, values[write]}));
             }
         }
@@ -100,6 +105,7 @@ struct Register {
     bool goes_on(uint64_t bit) {
         reads &= ~bit;
         writes &= ~bit;
+        sets &= ~bit;
         std::swap(all, next);
         return !all.empty();
     }
@@ -147,13 +153,15 @@ static std::vector<Event> events_of(const std::string &text, bool keyed) {
                 event.type = *type == 'o' ? Type::Ok : *type == 'f' ? Type::Fail : type[2] == 'v' ? Type::Invoke : Type::Info;
                 at = type;
             } else if (word == "f") {
-                event.is_write = at[2] == 'w';
+                event.is_set = at[2] == 'c';
+                event.is_write = event.is_set || at[2] == 'w';
                 at += 2;
             } else if (word == "process") {
                 process = number(at);
             } else if (word == "value") {
                 if (keyed) event.key = number(at);
                 event.value = number(at);
+                if (*at == ' ') event.from = std::exchange(event.value, number(at));
             }
         }
         at = end + 1;

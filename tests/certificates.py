@@ -15,33 +15,34 @@ def value_words(value):
     return 'nil' if value is None else str(value)
 
 
-def items_words(items):
-    some = ','.join(map(str, items[:MOST_ITEMS]))
-    return some if len(items) <= MOST_ITEMS else '%s,... %d in all' % (some, len(items))
+def items_words(items, most=MOST_ITEMS):
+    """So many items are told, and how many there are; without a number all are, as machines are told them."""
+    some = ','.join(map(str, items[:most]))
+    return some if most is None or len(items) <= most else '%s,... %d in all' % (some, len(items))
 
 
-def members_words(members):
-    return '{%s}' % items_words(sorted(members))
+def members_words(members, most=MOST_ITEMS):
+    return '{%s}' % items_words(sorted(members), most)
 
 
-def state_words(kind, state):
+def state_words(kind, state, most=MOST_ITEMS):
     if kind in ('register', 'cas-register'):
         return value_words(state)
     if kind == 'fifo':
-        return '[%s]' % items_words(state)
+        return '[%s]' % items_words(state, most)
     if kind == 'mutex':
         return 'held' if state else 'free'
-    return members_words(state)
+    return members_words(state, most)
 
 
-def reply_words(reply):
-    return members_words(reply[1]) if reply[0] == 'members' else value_words(reply[1])
+def reply_words(reply, most=MOST_ITEMS):
+    return members_words(reply[1], most) if reply[0] == 'members' else value_words(reply[1])
 
 
-def reply_behind(reply, with_members=True):
+def reply_behind(reply, with_members=True, most=MOST_ITEMS):
     if reply is None or reply == 'done' or (reply[0] == 'members' and not with_members):
         return ''
-    return ' ' + reply_words(reply)
+    return ' ' + reply_words(reply, most)
 
 
 def call_words(event):
@@ -50,8 +51,8 @@ def call_words(event):
     return event.name + (' ' + value_words(event.value) if event.name in ('write', 'enqueue', 'add') else '')
 
 
-def event_words(event):
-    said = call_words(event) if event.type == 'invoke' else event.name + (reply_behind(event.reply()) if event.type == 'ok' else '')
+def event_words(event, most=MOST_ITEMS):
+    said = call_words(event) if event.type == 'invoke' else event.name + (reply_behind(event.reply(), most=most) if event.type == 'ok' else '')
     return 'p%d %s %s' % (event.process, event.type, said)
 
 
@@ -168,6 +169,12 @@ def is_overwritten(ops, op, value):
             and (bool(sources) if value is not None else any(is_overwriting(None, w, op) for w in ops)))
 
 
+def is_stale(ops, op, value, over, held):
+    """Whether it needs the value, and behind all others that leave that one touched another value before it."""
+    return (value in op.needs() and over.is_before(op) and held != value and held in over.needs() + over.leaves()
+            and all(u.is_before(over) for u in others_that_leave(ops, op, value)))
+
+
 def touches(ops, op, value):
     def is_ok_and_touches(o):
         return value in o.needs() or o.how == 'ok' and value in o.leaves()
@@ -244,6 +251,13 @@ def may_take_ahead(ops, d):
 
 def is_remaining(ops, d):
     return d.took(None) and len(put_before(ops, d)) > len(may_take_ahead(ops, d))
+
+
+def is_surplus(ops, d, values):
+    """Whether it found nothing, though more of the values were put in before it than other dequeues may have taken one of them out ahead of it."""
+    put = [op for op in put_before(ops, d) if op.call.value in values]
+    may = [op for op in may_take_ahead(ops, d) if op.how != 'ok' or op.reply[1] in values]
+    return d.took(None) and len(put) > len(may)
 
 
 def taken_before(ops, d, value):

@@ -250,8 +250,10 @@ class Choosing(Judge):
         form = super().certificate(told, kind, ops)
         failing = max((op for op in ops if op.end is not None), key=lambda op: op.end)
         lines, right = told.lines[first:told.next], wanted(kind, ops, failing, self.spot)[1] or [NO_REASON]
-        # where nothing leaves a value it is spent too, which is told of an operation that failed to leave it
-        if lines != right and not (form == 'spent' and right[0].startswith('why: nothing leaves')):
+        # where nothing leaves a value it is spent too, which is told of an operation that failed to leave it; where no other form holds, what a
+        # search tells the failure by
+        is_of_search = form in ('stale', 'surplus') and right == [NO_REASON]
+        if lines != right and not is_of_search and not (form == 'spent' and right[0].startswith('why: nothing leaves')):
             raise Wrong('another certificate is wanted. Told is\n%s\n  and not\n%s' % ('\n'.join(lines) or 'none', '\n'.join(right) or 'none'))
         return form
 
@@ -270,9 +272,9 @@ class Run:
             runs()
         return self.passed, self.faults, self.counts
 
-    def run(self, words, commands=''):
+    def run(self, words, commands='', told=''):
         done = subprocess.run([self.program] + words, input=commands, cwd=self.folder, capture_output=True, text=True)
-        told = 'lincheck: FILE: %s\n' % '; '.join(self.refusal[1:]) if self.refusal is not None and words[0] == 'check' else ''
+        told = 'lincheck: FILE: %s\n' % '; '.join(self.refusal[1:]) if self.refusal is not None and words[0] == 'check' else told
         if done.stderr != told or done.stdout and not done.stdout.endswith('\n'):
             raise Wrong('the last line has no end, or standard error has something else than is wanted there: %s' % done.stderr)
         return done.stdout.split('\n')[:-1], done.returncode
@@ -280,19 +282,38 @@ class Run:
     def options(self, budget):
         return ['--kind', self.model.default] + ['--keyed'] * self.model.keyed + ['--budget', str(budget)] * (budget != 65536)
 
-    def judged(self, words, judge, commands=''):
+    def judged(self, words, judge, commands='', told=''):
         """One run: what is wrong with it, if anything."""
         lines = []
         try:
-            lines, status = self.run(words, commands)
+            lines, status = self.run(words, commands, told)
             judge(lines, status)
             self.passed += 1
         except (Wrong, ValueError, KeyError, IndexError) as fault:
             self.faults.append('%s: %s\n  %s\n%s\nprints\n%s' % (
                 self.name, shlex.join(words), fault, self.text + commands, '\n'.join(lines)))
 
+    def is_absent(self, words, key):
+        """Whether no event has the key. If none has, the run prints nothing and tells which keys there are."""
+        keys = sorted({event.key for event in self.model.events})
+        if self.refusal is not None or key is None or key in keys:
+            return False
+        there = ', '.join(map(str, keys[:8])) + ' and %d more' % (len(keys) - 8) * (len(keys) > 8)
+        told = '; the keys are ' + there if len(keys) > 1 else '; the key is ' + there if keys else ', and there are no others'
+
+        def judge(lines, status):
+            if lines or status != 5:
+                raise Wrong('status %d, and no event has the key' % status)
+
+        self.counts['key of no event'] += 1
+        self.judged(words, judge, told='lincheck: FILE: no event has key %d%s\n' % (key, told))
+        return True
+
     def explain(self, budget, key, with_order):
         words = ['explain'] + self.options(budget) + ['FILE'] + (['--key=%d' % key] if key is not None else []) + ['--order'] * with_order
+        if self.is_absent(words, key):
+            self.is_absent(words + ['--format', 'json'], key)
+            return
 
         def judge(lines, status):
             self.model.budget = budget

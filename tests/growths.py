@@ -29,9 +29,9 @@ PROGRAM = os.path.join(HERE, "..", "crates", "lincheck", "out", "lincheck")
 FAULT = "lincheck: 3 OutOfMemory\n"
 NOT_READ, NOT_WRITTEN = "lincheck: 1 ReadFailed\n", "lincheck: 2 WriteFailed\n"
 FAILED = 6
-REFUSED = 4  # the status of a run that refuses a file or an order
 # In a session with searches: how many growths at either end of a command are refused, the distance between, and how many questions do without.
-ENDS, DISTANCE, DONE_WITHOUT = 32, 61, 8
+# (processes are looked up in a list too where there is memory for one, so that two more do without)
+ENDS, DISTANCE, DONE_WITHOUT = 32, 61, 10
 QUESTIONS = ("ask", "order", "report", "refute", "explain")
 
 # The growth with the number in REFUSED is refused, and that is told on descriptor 2; for number 0 the count of all, at the end.
@@ -315,8 +315,6 @@ def devices_of(program, folder, words, recording, script):
         if not told:
             return None if (written, ending) == (wanted, status) else (written, ending)
         is_right = ending == FAILED and written in [front + NOT_READ for front in fronts_of(told, piece, recording, script, number)]
-        # (behind a refusal the file is read once more, for a note: a read that fails then has nothing told)
-        is_right = is_right or status == REFUSED and (written, ending) == (wanted, status)
         return told if is_right else (written, ending)
 
     def failed_write(piece, number, error, on):
@@ -332,9 +330,8 @@ def devices_of(program, folder, words, recording, script):
     with ThreadPoolExecutor(os.cpu_count()) as pool:
         for call, said in calls:
             # Each call fails in turn, up to a run that has no such call.
-            readings = len(script) * (2 if status == REFUSED else 1)
-            most = 4 + (len(text) + len(recording) * readings if call is failed_read else len(wanted)) // said[0]
-            ends = list(pool.map(lambda number: call(said[0], number, *said[1:]), range(1, most + readings * 2)))
+            most = 4 + (len(text) + len(recording) * len(script) if call is failed_read else len(wanted)) // said[0]
+            ends = list(pool.map(lambda number: call(said[0], number, *said[1:]), range(1, most + len(script) * 2)))
             count = ends.index(None) if None in ends else len(ends)
             stopped += count
             for number, ended in enumerate(ends, 1):

@@ -4,8 +4,8 @@ import json
 import re
 
 from certificates import (
-    MOST_LISTED, NOUNS, OTHER, certificates, event_words, failed_within, is_counted, is_crossed, is_inside, is_late, is_lost, is_overwriting,
-    is_overwritten, is_passed, is_preceded, is_remaining, is_spent, is_split, is_taken, is_twice, is_unadded, is_unwritten, is_within, items_words,
+    MOST_ITEMS, MOST_LISTED, NOUNS, OTHER, certificates, event_words, failed_within, is_counted, is_crossed, is_inside, is_late, is_lost, is_overwriting,
+    is_overwritten, is_passed, is_preceded, is_remaining, is_spent, is_split, is_stale, is_surplus, is_taken, is_twice, is_unadded, is_unwritten, is_within, items_words,
     made_within, may_be_within, may_take_ahead, operations_of, others_that_leave, put_before, puts, rank, reply_words, spenders, state_words, tails,
     taken_before, taken_by, those_that_leave, times, value_words, wanted_form)
 from edits import NAMES
@@ -85,7 +85,7 @@ class Judge:
     def place(self, at):
         """What machines are told of an event."""
         offset, line = self.places[at] if self.places is not None else (None, None)
-        return {'at': at, 'line': line, 'offset': offset, 'words': event_words(self.events[at])}
+        return {'at': at, 'line': line, 'offset': offset, 'words': event_words(self.events[at], None)}
 
     def table(self, told, marked, more):
         """The lines of operations, each with its mark."""
@@ -143,13 +143,13 @@ class Judge:
             told.want('  and %d more' % (len(all_words) - MOST_LISTED))
         return all_words
 
-    def differing(self, members, recorded):
+    def differing(self, members, recorded, most=MOST_ITEMS):
         """How members differ from the recorded ones, in words."""
         more, fewer = sorted(members - recorded), sorted(recorded - members)
-        return ' '.join(['with ' + items_words(more)] * bool(more) + ['without ' + items_words(fewer)] * bool(fewer))
+        return ' '.join(['with ' + items_words(more, most)] * bool(more) + ['without ' + items_words(fewer, most)] * bool(fewer))
 
     def some(self, name, count, words):
-        """Notes what machines are told of a list: how many there are, if all are known, and the words that are told."""
+        """Notes what machines are told of a list: how many there are, if all are known, and the whole words of those that are told."""
         self.facts[name] = {'count': count, 'some': words[:MOST_LISTED]}
 
     def replies(self, told, kind, part, op, recorded, is_over):
@@ -169,25 +169,28 @@ class Judge:
             return None
         if recorded[0] == 'members' and all(r[0] == 'members' for r in by_reply):
             rising = sorted(by_reply, key=lambda r: (len(r[1] ^ recorded[1]), rank(r[1])))
-            named = [(self.differing(r[1], recorded[1]), by_reply[r]) for r in rising]
+            said = [(self.differing(r[1], recorded[1]), self.differing(r[1], recorded[1], None)) for r in rising]
         else:
-            named = [(reply_words(r), by_reply[r]) for r in sorted(by_reply, key=lambda r: rank(r[1]))]
+            rising = sorted(by_reply, key=lambda r: rank(r[1]))
+            said = [(reply_words(r), reply_words(r, None)) for r in rising]
+        named = [(short, by_reply[r]) for r, (short, _) in zip(rising, said)]
         words = self.whole_or_part(told, 'it could have returned', named, is_over, unlisted)
-        self.some('replies', *((None, []) if words is None else (len(words), words)))
+        self.some('replies', *((None, []) if words is None else (len(words), [whole for _, whole in said])))
         return words
 
     def states(self, told, kind, part, count, replies, is_over):
         by_state = tails(kind, [e for _, e in part])
-        named = [(state_words(kind, s), by_state[s]) for s in sorted(by_state, key=rank)]
+        rising = sorted(by_state, key=rank)
+        named, whole = [(state_words(kind, s), by_state[s]) for s in rising], [state_words(kind, s, None) for s in rising]
         head = 'after the first %d events the %s could be' % (count, NOUNS[kind])
         if [words for words, _ in named] == replies:
             told.want(head + ' just that')
-            self.some('states', len(replies), replies)
+            self.some('states', len(whole), whole)
             return
         words = self.whole_or_part(
             told, head, named, is_over,
             'what the %s could be after the first %d events isn\'t listed: more than %d configurations' % (NOUNS[kind], count, self.model.budget))
-        self.some('states', *((None, []) if words is None else (len(words), words)))
+        self.some('states', *((None, []) if words is None else (len(words), whole)))
 
     # certificates
 
@@ -274,6 +277,7 @@ class Judge:
                 (r'(\S+) was in the queue', 'inside', self.inside),
                 (r'(1 item was|\d+ items were) put in before (.+), and at most (\d+) can have been taken out before (\S+) was: (.+)', 'preceded', self.preceded),
                 (r'(1 item was|\d+ items were) put in before (.+), and at most (\d+) can have been taken out before it returned', 'remaining', self.remaining),
+                (r'of (.+) more were put in before (.+) than can have been taken out before it returned', 'surplus', self.surplus_of),
                 (r'nothing adds (\S+)', 'unadded', self.unadded),
                 (r'(\S+) was lost', 'lost', self.lost),
                 (r'two reads exclude each other', 'split', self.split),
@@ -283,9 +287,10 @@ class Judge:
                 (r'(acquire|release)d (\d+ times?) from (.+) to (.+), and (acquire|release)d at most (\d+ times?)', 'within', self.within)]:
             parts = re.fullmatch(form, why)
             if parts:
-                if not judge(told, kind, ops, *parts.groups()):
+                holds = judge(told, kind, ops, *parts.groups())
+                if not holds:
                     raise Wrong('what is told doesn\'t hold: %s' % why)
-                return name
+                return holds if isinstance(holds, str) else name
         raise Wrong('no certificate: %s' % why)
 
     def set_shape(self, told, kind, ops, value):
@@ -303,6 +308,10 @@ class Judge:
 
     def overwritten(self, told, kind, ops, value, reader):
         value, reader = value_of(value), self.one_of(reader, 'called')
+        if not is_overwritten(ops, reader, value) or ' was held: ' in (told.peek() or ''):
+            held, over = told.match(r'  (\S+) was held: (.+)').groups()
+            held, over = value_of(held), self.one_of(over, 'returned')
+            return kind in ('register', 'cas-register') and is_stale(ops, reader, value, over, held) and 'stale'
         if value is None and not is_overwriting(None, self.one_of(told.match(r'  (.+)')[1], 'returned'), reader):
             return False
         sources = others_that_leave(ops, reader, value)
@@ -387,6 +396,14 @@ class Judge:
             if parts.groups()[:3] != (value_words(value), times(len(early)), times(len(outs))) or self.one_of(parts[4], 'called') is not d:
                 return False
         return self.surplus(told, ops, d, put_before(ops, j), said, most) and kind == 'fifo' and is_preceded(ops, j, d, value)
+
+    def surplus_of(self, told, kind, ops, items, first):
+        d, (some, cut, _) = self.one_of(first, 'called'), items.partition(',... ')
+        values = [value_of(item) for item in some.split(',')]
+        if cut:
+            # (those that aren't told are some of the others)
+            values += [op.call.value for op in ops if op.does('enqueue') and op.call.value > values[-1]]
+        return kind == 'unordered-queue' and is_surplus(ops, d, values) and 'surplus'
 
     def remaining(self, told, kind, ops, said, first, most):
         d = self.one_of(first, 'called')

@@ -5,7 +5,7 @@ Each history goes through `lincheck draw`. A picture has to be an SVG of few sor
 operations of the object, each in the row of its process and of the sort that it is; and its dots a legal order of the object's events (of a no: of
 those before the last of the prefix), each on its bar, behind the invocation of each dot up to it and ahead of its bar's end. Below the rows stand the
 lines that `explain` tells. Then come pictures in one page: what they name alike has to be the same, since there the first one counts for all.
-Last come values and keys of signs that XML has for itself, whose pictures have to show them as they are.
+Last come values and keys of signs that XML has for itself, whose pictures have to show them as they are, and a long value, which titles have whole.
 
 usage: tests/pictures.py [HISTORIES] [SEED]   (builds what isn't built, unless LINCHECK in the environment names the program)
 """
@@ -170,6 +170,8 @@ def random_runs(program, number, seed):
 
     def runs():
         words = run.options(budget) + ['FILE'] + (['--key=%d' % key] if key is not None else [])
+        if run.is_absent(['draw'] + words, key):
+            return
         told, _ = run.run(['explain'] + words)
         run.judged(['draw'] + words, lambda lines, status: judged(told, lines, status))
 
@@ -212,6 +214,18 @@ def strange_words(program):
     return faults
 
 
+def whole_titles(program):
+    """A fault where a long value is cut in the title of a bar or a dot, or isn't where it stands above a bar."""
+    value = '"%s"' % ('0123456789' * 3)
+    lines = ['{:process 0 :type :%s :f :write :value %s}' % (type_, value) for type_ in ('invoke', 'ok')]
+    ran = subprocess.run([program, 'draw', '-'], input='\n'.join(lines).encode(), capture_output=True)
+    root = ElementTree.fromstring(ran.stdout)
+    titles, labels = ([it.text or '' for it in root.iter(SPACE + name)] for name in ('title', 'text'))
+    wanted = ['p0 write %s, called at event 0, line 1, ok at event 1, line 2' % value, '1: p0 write ' + value]
+    faults = ['no title %s among %s' % (title, titles) for title in wanted if title not in titles]
+    return faults + ([] if 'write "01234567890123\u2026' in labels else ['no cut label among %s' % labels])
+
+
 def main():
     given = sys.argv[1:]
     histories, seed = int(given[0]) if given else HISTORIES, int(given[1]) if given[1:] else 1
@@ -220,7 +234,7 @@ def main():
     with ProcessPoolExecutor(os.cpu_count()) as pool:
         for right, wrong, counted in pool.map(random_runs, itertools.repeat(program), range(histories), itertools.repeat(seed), chunksize=8):
             passed, faults, counts = passed + right, faults + wrong, counts + counted
-    for more in (one_page(program), strange_words(program)):
+    for more in (one_page(program), strange_words(program), whole_titles(program)):
         passed, faults = passed + (not more), faults + more
     for fault in faults[:10]:
         print(fault)

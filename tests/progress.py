@@ -134,11 +134,17 @@ class Case:
     def refused(self):
         """A history that is refused before its end, where standard output is the terminal too."""
         _, shown, status = run_on_terminal([self.program, 'check', self.fifo(FAULTY)], whole=True)
-        rest = self.see_told(shown)[1].replace(b'\r\n', b'\n')
-        wanted = run([self.program, 'check', self.file(FAULTY)], b'')
-        # (the note is made from the file read once more, which a pipe doesn't give)
-        if not wanted[0] or not rest.startswith(wanted[0]) or status != wanted[2] or not wanted[1].startswith(b'lincheck: '):
-            raise Wrong('%r instead of %r' % ((rest, status), wanted))
+        self.see_refused((self.see_told(shown)[1].replace(b'\r\n', b'\n'), b'', status))
+
+    def see_refused(self, found):
+        """Sees that a run over a FIFO is that over a file, but for the note that is made from the file read once more: no FIFO is opened again."""
+        out, err, status = run([self.program, 'check', self.file(FAULTY)])
+        if not out or not err.startswith(b'lincheck: ') or found != (out, b'', status):
+            raise Wrong('%r instead of %r' % (found, (out, b'', status)))
+
+    def refused_pipe(self):
+        """The same without a terminal. A run that opened the FIFO again would wait for another writer, up to LIMIT."""
+        self.see_refused(run([self.program, 'check', self.fifo(FAULTY)]))
 
     def pulled(self):
         """Commands, the last of which finds the file at its end."""
@@ -173,6 +179,7 @@ CASES = [
     Case.long_name,
     Case.control_character,
     Case.refused,
+    Case.refused_pipe,
     Case.pulled,
     Case.pipe,
     Case.errors_in_file,
@@ -202,7 +209,7 @@ def has_terminals():
 
 def main():
     program = os.path.abspath(os.environ.get('LINCHECK') or built())
-    cases = CASES if has_terminals() else [Case.pipe, Case.errors_in_file]
+    cases = CASES if has_terminals() else [Case.refused_pipe, Case.pipe, Case.errors_in_file]
     if cases is not CASES:
         print('no pseudo terminal can be made here: only what is told elsewhere is looked at')
     with ThreadPoolExecutor(len(cases)) as pool:

@@ -66,7 +66,7 @@ uint32_t lincheck_check(const lincheck_options *options, const uint8_t *history,
                         uint8_t *room, size_t room_length, size_t *needed);
 
 /* Why it is or isn't, or isn't decided: what `lincheck explain` tells, for the object of the key that a text names, as `3`, `:x` or `"a"`, and for
-   the whole where `key_length` is 0. */
+   the whole where `key_length` is 0. A key that no event has, which the command refuses, is told of as an object without events. */
 uint32_t lincheck_explain(const lincheck_options *options, const uint8_t *history, size_t history_length, const uint8_t *key, size_t key_length,
                           uint8_t *room, size_t room_length, size_t *needed);
 

@@ -71,10 +71,12 @@ module _ (h : List Event) (at : ℕ) where
     none_own (Form.Taken n) own is = taken n own is
     none_own (Form.Remaining dequeue) own is = remaining (subst (λ k. Certifies h kind (Form.Remaining k)) own is)
     none_own Form.Counted own is = counted is
+    none_own (Form.Stale operation v over w) own is = own
     none_own (Form.Crossed v w early late back) own is = own
     none_own (Form.Spent v) own is = own
     none_own (Form.Passed enqueue later dequeue n other) own is = own
     none_own (Form.Inside enqueue dequeue n) own is = own
+    none_own (Form.Surplus dequeue ns) own is = own
     none_own (Form.Preceded later dequeue n) own is = own
     none_own (Form.Unadded read n) own is = own
     none_own (Form.Lost earlier read n) own is = own

@@ -1,4 +1,5 @@
-//! A search for a certificate. Whatever it finds is tested; it finds one wherever the failing operation alone decides it.
+//! A search for a certificate. Whatever it finds is tested; it finds one wherever the failing operation alone decides it, and what the searches for a
+//! failure find that go through the events of a register or a bag one after another.
 ghost use Rattle.std.specs.Prelude.{IfNone, IfOk, IfSome};
 ghost use Rattle.lin_order.specs.Tables.{IsNextTable};
 ghost use Rattle.lin_certificates.specs.Certificates.{Certifies};
@@ -8,10 +9,11 @@ ghost use Rattle.lin_candidates.specs.OwnCertificates.{IsOwn};
 use crate::candidates::{FORMS, Form, candidate, candidate_naming};
 use crate::endings::{Operation, operations_of};
 use crate::own::{own_certificate, tested};
-use lin_certificates::Certificate;
+use lin_certificates::{Certificate, bag_failure};
 use lin_events::{Event, OutOfMemory};
 use lin_objects::Kind;
 use lin_order::ends_of;
+use lin_registers::register_failure;
 use std::alloc::Global;
 
 /// How many operations are looked at beside the failing one, the last invoked first.
@@ -119,10 +121,28 @@ fn certificate_of_last(
     Ok(None)
 }
 
+/// The certificate by which a search tells that a register or a bag has no legal order, if it finds one.
+fn certificate_of_search(
+    alloc: Global,
+    events: &[Event],
+    ends: &[Option<usize>],
+    kind: Kind,
+) -> Result<Option<Certificate>, OutOfMemory>
+    requires { IsNextTable events.now ends.now }
+    ensures { IfOk result (λ found. IfSome found (λ certificate. Certifies events.now kind certificate)) }
+{
+    let failure = match kind {
+        Kind::Register | Kind::CasRegister => register_failure(alloc, events)?,
+        Kind::Bag => bag_failure(alloc, events)?,
+        Kind::Fifo | Kind::Set | Kind::Mutex => None,
+    };
+    Ok(tested(events, ends, kind, failure.map(|(_, found)| found)))
+}
+
 /// A certificate that holds of the events, which are those of one object of the kind, if the search finds one. `failing` is the place where the
 /// failing operation was invoked, the one with whose end no order is legal any more. Of the certificates whose lines name it the first is wanted,
-/// else the first of all: forms in their order, and of a form mostly the operations that were invoked last. Where the failing operation alone decides
-/// a certificate, one is found. `OutOfMemory` is answered only where memory was refused.
+/// else the first of all: forms in their order, and of a form mostly the operations that were invoked last; last that by which a search told the failure.
+/// Where the failing operation alone decides a certificate, one is found. `OutOfMemory` is answered only where memory was refused.
 pub fn find_certificate(
     alloc: Global,
     events: &[Event],
@@ -149,5 +169,9 @@ pub fn find_certificate(
     if last.is_some() {
         return Ok(last);
     }
-    Ok(own_certificate(events, ends.as_slice(), kind, failing))
+    let own = own_certificate(events, ends.as_slice(), kind, failing);
+    if own.is_some() {
+        return Ok(own);
+    }
+    certificate_of_search(alloc, events, ends.as_slice(), kind)
 }

@@ -65,6 +65,10 @@ overwritten_why told at v = codes "why: " ++ value_text told.names.now v ++ code
 abbrev pub overwritten_text : ObjectEvents → ℕ → Val → Option ℕ → List (ℕ × ℕ) → ℕ → List ℕ
 overwritten_text told at v first pairs more = overwritten_why told at v ++ first_over_text told first ++ flat_map (pair_text told) pairs ++ more_updates_text told v more
 
+-- what the operation needs was overwritten before it, since another one shows another value
+abbrev pub stale_text : ObjectEvents → ℕ → Val → ℕ → Val → List ℕ
+stale_text told at v over w = overwritten_why told at v ++ codes "  " ++ value_text told.names.now w ++ codes " was held: " ++ returned_text told over ++ codes "\n"
+
 -- the one value was held before the other
 abbrev pub held_text : ObjectEvents → Val → Val → ℕ × ℕ → List ℕ
 held_text told v w pair = codes "  " ++ value_text told.names.now v ++ codes " before " ++ value_text told.names.now w ++ codes ": " ++ in_turn_text told pair.0 pair.1 ++ codes "\n"

@@ -17,10 +17,10 @@ use Rattle.lin_certificates.specs.declared.words.Calls.{Calls}
 use Rattle.lin_certificates.specs.declared.words.Calls.TheVariants.{Acquires, Releases}
 use Rattle.lin_certificates.specs.Words.{IsOfCalls}
 use Rattle.lin_certificate_lines.specs.Groups.{Fails, IsBetween, IsListing}
-use Rattle.lin_certificate_lines.specs.Lines.{counted_text, crossed_text, inside_text, late_text, lost_text, overwritten_text, passed_text, shape_text, spent_text, split_text, taken_text, twice_text, unadded_text, unwritten_text}
+use Rattle.lin_certificate_lines.specs.Lines.{counted_text, crossed_text, inside_text, late_text, lost_text, overwritten_text, passed_text, shape_text, spent_text, split_text, stale_text, taken_text, twice_text, unadded_text, unwritten_text}
 use Rattle.lin_certificate_lines.specs.Series.{firsts}
 use Rattle.lin_certificate_lines.specs.Sides.{named_sides}
-use Rattle.lin_certificate_lines.specs.Surplus.{IsPrecededTold, IsRemainingTold}
+use Rattle.lin_certificate_lines.specs.Surplus.{IsPrecededTold, IsRemainingTold, surplus_line}
 use Rattle.lin_certificate_lines.specs.Within.{IsWithinTold}
 use Rattle.lin_certificate_lines.specs.declared.told.ObjectEvents.{ObjectEvents}
 
@@ -114,6 +114,7 @@ abbrev pub IsReasonOfRegister : ObjectEvents → Certificate → List ℕ → Li
 IsReasonOfRegister told (Form.Shape read) lines operations = (lines ≡ shape_text told read) × (operations ≡ read ∷ [])
 IsReasonOfRegister told (Form.Unwritten at n) lines operations = IsUnwrittenTold told at n lines operations
 IsReasonOfRegister told (Form.Overwritten at v) lines operations = IsOverwrittenTold told at v lines operations
+IsReasonOfRegister told (Form.Stale at v over w) lines operations = (lines ≡ stale_text told at v over w) × (operations ≡ at ∷ over ∷ [])
 IsReasonOfRegister told (Form.Crossed v w early late back) lines operations = (lines ≡ crossed_text told v (Held w) (early, late) back) × (operations ≡ all_four (early, late) back)
 IsReasonOfRegister told _ lines operations = (lines ≡ []) × (operations ≡ [])
 
@@ -144,6 +145,7 @@ pub record IsSpentTold (told : ObjectEvents) (v : Val) (lines operations : List 
 abbrev pub IsReasonByCount : ObjectEvents → Certificate → List ℕ → List ℕ → Type 0
 IsReasonByCount told (Form.Spent v) lines operations = IsSpentTold told v lines operations
 IsReasonByCount told (Form.Remaining dequeue) lines operations = IsRemainingTold told dequeue lines operations
+IsReasonByCount told (Form.Surplus dequeue ns) lines operations = (lines ≡ surplus_line told dequeue ns) × (operations ≡ dequeue ∷ [])
 IsReasonByCount told (Form.Preceded later dequeue n) lines operations = IsPrecededTold told later dequeue n lines operations
 IsReasonByCount told c lines operations = IsReasonOfSet told c lines operations
 

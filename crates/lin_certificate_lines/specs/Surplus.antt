@@ -2,7 +2,7 @@
 use Rattle.std.specs.Prelude.{◌≡◌, ℕ, List, [], ◌∷◌, ◌++◌, codes, decimal, if◌then◌else◌, length, nat_eq, reverse}
 use Rattle.lin_events.specs.declared.items.Item.{Item}
 use Rattle.lin_events.specs.declared.events.Event.{Event}
-use Rattle.lin_tables.specs.Values.{short_item_text}
+use Rattle.lin_tables.specs.Values.{items_text as listed_text, short_item_text}
 use Rattle.lin_certificates.specs.Words.{MayTakeAhead}
 use Rattle.lin_certificates.specs.Certificates.{CanAddBelow, PutsBefore, TookBefore}
 use Rattle.lin_certificate_lines.specs.Groups.{IsListing}
@@ -33,6 +33,11 @@ surplus_text told puts takes = facts_text told Returned puts ++ facts_text told 
 -- the dequeue found nothing
 abbrev pub remaining_text : ObjectEvents → ℕ → List ℕ → List ℕ → List ℕ
 remaining_text told dequeue puts takes = surplus_why told dequeue puts takes ++ codes "it returned\n" ++ surplus_text told puts takes
+
+-- the dequeue found nothing, though some of these items remained
+abbrev pub surplus_line : ObjectEvents → ℕ → List Item → List ℕ
+surplus_line told dequeue ns = codes "why: of " ++ listed_text told.names.now ns ++ codes " more were put in before " ++ called_text told dequeue
+    ++ codes " than can have been taken out before it returned\n"
 
 -- how often the item was put in earlier, and taken out, if it was
 abbrev pub earlier_line : ObjectEvents → ℕ → Item → List ℕ → List ℕ → List ℕ

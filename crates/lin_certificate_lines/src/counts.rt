@@ -3,16 +3,17 @@ ghost use Rattle.std.specs.Prelude.{◌≡◌, ◌++◌, OnOk};
 ghost use Rattle.lin_order.specs.Tables.{IsNextTable};
 ghost use Rattle.lin_certificate_lines.specs.Lines.{beside_text, spent_text, spent_why};
 ghost use Rattle.lin_certificate_lines.specs.Reasons.{ArePut, IsCertified, IsReasonByCount, IsSpentTold};
+ghost use Rattle.lin_certificate_lines.specs.Surplus.{surplus_line};
 
 use crate::groups::{CallGroup, ReplyGroup};
 use crate::series::put_how_often;
 use crate::sets::put_set_reason;
 use crate::sides::{Sides, name_sides, put_sides, sides_of};
 use crate::surplus::{put_preceded, put_remaining};
-use crate::told::ObjectEvents;
+use crate::told::{ObjectEvents, put_called};
 use lin_certificates::Certificate;
-use lin_events::Val;
-use lin_tables::put_value;
+use lin_events::{Item, Val};
+use lin_tables::{put_items, put_value};
 use std::alloc::{AllocError, Global};
 
 /// Ends a line on how often a register came to the value, with which it may have begun.
@@ -88,6 +89,23 @@ fn put_spent(
     Ok(())
 }
 
+/// Puts a line last of a dequeue that found nothing, though some of the items remained.
+fn put_surplus_line(
+    text: &mut Vec<u8>,
+    told: &ObjectEvents,
+    dequeue: usize,
+    items: &[Item],
+) -> Result<(), AllocError>
+    ensures { OnOk result (text.new.items ≡ text.old.items ++ surplus_line told.now dequeue items.now) }
+{
+    text.extend_from_slice(b"why: of ")?;
+    put_items(text, told.names, items)?;
+    text.extend_from_slice(b" more were put in before ")?;
+    put_called(text, told, dequeue)?;
+    text.extend_from_slice(b" than can have been taken out before it returned\n")?;
+    Ok(())
+}
+
 /// Puts the lines last of the certificate, if it is one that counts, or one of a set, a queue or a register.
 pub(crate) fn put_count_reason(
     text: &mut Vec<u8>,
@@ -103,6 +121,11 @@ pub(crate) fn put_count_reason(
     match certificate {
         Certificate::Spent { value } => put_spent(text, named, told, *value, alloc),
         Certificate::Remaining { dequeue } => put_remaining(text, named, told, *dequeue, alloc),
+        Certificate::Surplus { dequeue, items } => {
+            put_surplus_line(text, told, *dequeue, items.as_slice())?;
+            named.push(*dequeue)?;
+            Ok(())
+        }
         Certificate::Preceded {
             later,
             dequeue,

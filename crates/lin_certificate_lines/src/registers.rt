@@ -4,14 +4,16 @@ ghost use Rattle.std.specs.List.{flat_map};
 ghost use Rattle.lin_order.specs.Tables.{IsNextTable};
 ghost use Rattle.lin_certificates.specs.Certificates.{IsOverwritten};
 ghost use Rattle.lin_certificate_lines.specs.Groups.{IsBetween};
-ghost use Rattle.lin_certificate_lines.specs.Lines.{crossed_back_text, crossed_text, first_over_text, held_text, members_why, more_updates_text, overwritten_text, overwritten_why, pair_text, reply_why, shape_text, shape_why, unwritten_text, updates_count_text, value_why};
+ghost use Rattle.lin_certificate_lines.specs.Lines.{crossed_back_text, crossed_text, first_over_text, held_text, members_why, more_updates_text, overwritten_text, overwritten_why, pair_text, reply_why, shape_text, shape_why, stale_text, unwritten_text, updates_count_text, value_why};
 ghost use Rattle.lin_certificate_lines.specs.Reasons.{ArePut, IsCertified, IsFirstOver, IsOverwrittenTold, IsReasonOfRegister, IsUnwrittenTold, most_told as most_of, named_over};
 
 use crate::groups::{CallGroup, Group};
 use crate::listing::{all_of, latest_of};
-use crate::naming::{name_four, name_pairs, name_some};
+use crate::naming::{name_four, name_pair, name_pairs, name_some};
 use crate::series::{FIRSTS, firsts_of, put_fact, put_failures};
-use crate::told::{ObjectEvents, Verb, put_called, put_end_spot, put_in_turn, reply_of};
+use crate::told::{
+    ObjectEvents, Verb, put_called, put_end_spot, put_in_turn, put_returned, reply_of,
+};
 use lin_certificates::Certificate;
 use lin_events::{Item, Reply, Val};
 use lin_tables::{put_short_item, put_value};
@@ -308,6 +310,26 @@ fn put_overwritten(
     Ok(())
 }
 
+/// Puts the lines last of a value that was overwritten before the operation that needs it, since the other operation shows another value.
+fn put_stale(
+    text: &mut Vec<u8>,
+    told: &ObjectEvents,
+    operation: usize,
+    value: Val,
+    over: usize,
+    held: Val,
+) -> Result<(), AllocError>
+    ensures { OnOk result (text.new.items ≡ text.old.items ++ stale_text told.now operation value over held) }
+{
+    put_overwritten_why(text, told, operation, value)?;
+    text.extend_from_slice(b"  ")?;
+    put_value(text, told.names, held)?;
+    text.extend_from_slice(b" was held: ")?;
+    put_returned(text, told, over)?;
+    text.push(b'\n')?;
+    Ok(())
+}
+
 /// Puts a line last that says that the one value was held before the other.
 fn put_held(
     text: &mut Vec<u8>,
@@ -390,6 +412,16 @@ pub(crate) fn put_register_reason(
         }
         Certificate::Overwritten { operation, value } => {
             put_overwritten(text, named, told, *operation, *value, alloc)
+        }
+        Certificate::Stale {
+            operation,
+            value,
+            over,
+            held,
+        } => {
+            put_stale(text, told, *operation, *value, *over, *held)?;
+            name_pair(named, (*operation, *over))?;
+            Ok(())
         }
         Certificate::Crossed {
             value,

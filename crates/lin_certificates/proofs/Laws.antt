@@ -10,8 +10,9 @@ use Rattle.lin_certificates.specs.Certificates.{Certifies, CertifiesBag, Certifi
 use Rattle.lin_certificates.specs.declared.certificate.Certificate.{Certificate}
 use Rattle.lin_certificates.specs.declared.certificate.Certificate.TheVariants as Form
 use Rattle.lin_certificates.proofs.LockLaws.{twice, unbalanced, within}
-use Rattle.lin_certificates.proofs.QueueLaws.{bag_inside, bag_remaining, bag_taken, fifo_inside, fifo_passed, fifo_remaining, fifo_taken}
+use Rattle.lin_certificates.proofs.QueueLaws.{bag_inside, bag_remaining, bag_surplus, bag_taken, fifo_inside, fifo_passed, fifo_remaining, fifo_surplus, fifo_taken}
 use Rattle.lin_certificates.proofs.FrontLaws.{preceded}
+use Rattle.lin_certificates.specs.lemmas.Overwriting.{stale}
 use Rattle.lin_certificates.proofs.RegisterLaws.{crossed, no_members, overwritten, unwritten}
 use Rattle.lin_certificates.proofs.SpentLaws.{spent}
 use Rattle.lin_certificates.proofs.SetLaws.{late, no_value, none_added, one_lost, split}
@@ -21,6 +22,7 @@ module _ (h : List Event) (order : List Placed) where
   of_register kind is legal (Form.Shape at) holds = no_members kind is h order legal at holds
   of_register kind is legal (Form.Unwritten at v) holds = unwritten kind is h order legal at v holds
   of_register kind is legal (Form.Overwritten at v) holds = overwritten kind is h order legal at v holds
+  of_register kind is legal (Form.Stale at v over w) holds = stale kind is h order legal at over v w holds
   of_register kind is legal (Form.Crossed v w early late back) holds = crossed kind is h order legal v w early late back holds
   of_register kind is legal (Form.Spent v) holds = spent kind is h v order legal holds
   of_register kind is legal c holds = absurd holds
@@ -29,6 +31,7 @@ module _ (h : List Event) (order : List Placed) where
   of_bag legal (Form.Taken n) holds = bag_taken h order legal n holds
   of_bag legal (Form.Inside enqueue dequeue n) holds = bag_inside h order legal enqueue dequeue n holds
   of_bag legal (Form.Remaining dequeue) holds = bag_remaining h order legal dequeue holds
+  of_bag legal (Form.Surplus dequeue ns) holds = bag_surplus h order legal dequeue ns holds
   of_bag legal c holds = absurd holds
 
   of_fifo : IsLegalOrderAs Fifo h order → (c : Certificate) → CertifiesFifo h c → ⊥
@@ -36,6 +39,7 @@ module _ (h : List Event) (order : List Placed) where
   of_fifo legal (Form.Taken n) holds = fifo_taken h order legal n holds
   of_fifo legal (Form.Inside enqueue dequeue n) holds = fifo_inside h order legal enqueue dequeue n holds
   of_fifo legal (Form.Remaining dequeue) holds = fifo_remaining h order legal dequeue holds
+  of_fifo legal (Form.Surplus dequeue ns) holds = fifo_surplus h order legal dequeue ns holds
   of_fifo legal (Form.Preceded later dequeue n) holds = preceded h order legal later dequeue n holds
   of_fifo legal c holds = absurd holds
 

@@ -1,7 +1,7 @@
 -- Just so many is at least and at most so many, and so many alone.
 use Rattle.std.proofs.Common.{◌≡◌, ℕ, List, [], ◌∷◌, Contains, length, inl, inr, sym, ◌∙◌, arith}
 use Rattle.lin_lists.specs.lemmas.Elements.{all_of, first_or_rest, nothing_in}
-use Rattle.lin_certificates.specs.BagConflicts.{AtLeast, AtMost}
+use Rattle.lin_certificates.specs.Numbers.{AtLeast, AtMost}
 use Rattle.lin_certificates.specs.lemmas.Counting.{no_more}
 use Rattle.lin_certificates.specs.Words.{Exactly}
 

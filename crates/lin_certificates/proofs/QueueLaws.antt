@@ -21,16 +21,16 @@ use Rattle.lin_order.specs.Orders.{IsBefore, IsCall}
 use Rattle.lin_order.specs.lemmas.OneEnd.{one_call, one_ok}
 use Rattle.lin_order.specs.lemmas.Running.{runs_split}
 use Rattle.lin_certificates.specs.Adding.{Adds, IsAddedOnce}
-use Rattle.lin_certificates.specs.BagConflicts.{AtLeast, Took}
+use Rattle.lin_certificates.specs.Numbers.{AtLeast}
 use Rattle.lin_certificates.specs.QueueConflicts.{IsNotTakenBy, IsPassing, PutAt, Takes}
 use Rattle.lin_certificates.specs.lemmas.BagConflicting.{changes, empties, in_decides, inside, no_item, no_put, no_take, one, one_in, one_out, times}
 use Rattle.lin_certificates.specs.lemmas.Conflicting.{parted}
-use Rattle.lin_certificates.specs.lemmas.Counting.{Changes, Puts, TakesOut, chosen_least, chosen_most, counted, overtaken}
+use Rattle.lin_certificates.specs.lemmas.Counting.{Changes, Puts, TakesOut, chosen_least, chosen_most, counted}
 use Rattle.lin_certificates.specs.lemmas.QueueConflicting.{one_alone, passed_later, passed_over, takes_call}
 use Rattle.lin_certificates.specs.Words.{Exactly, Returned, StaysOpen}
-use Rattle.lin_certificates.specs.Certificates.{CanAdd, IsInside, IsPassed, IsRemaining, IsTaken, Stays, TookOut}
-use Rattle.lin_certificates.proofs.CountLaws.{remaining_of}
-use Rattle.lin_certificates.proofs.Numbers.{the_one}
+use Rattle.lin_certificates.specs.Certificates.{CanAdd, IsInside, IsPassed, IsRemaining, IsSurplus, IsTaken, Stays, TookOut}
+use Rattle.lin_certificates.proofs.CountLaws.{remaining_of, surplus_of}
+use Rattle.lin_certificates.proofs.Numbers.{at_least, at_most, the_one}
 use Rattle.lin_certificates.proofs.Outcomes.{not_added, outcome}
 use Rattle.lin_certificates.specs.lemmas.Standing.{At, at_here, at_left, at_within, left_at, not_failed, ok_there, one_place, place_of, reply_there, stands_ahead, stands_in}
 
@@ -82,10 +82,18 @@ module _ (kind : Kind) (inside : State → List Item → ℕ) (each : (s next : 
     (h : List Event) (order : List Placed) (legal : IsLegalOrderAs kind h order) where
   taken_of : (n : Item) → IsTaken h n → ⊥
   taken_of n is =
-      let puts = is.all_puts in
-      let takes = is.all_takes in
-      overtaken kind inside each h begins order legal n is.puts is.takes (puts.0, puts.1, λ at may. (puts.3 at).0 (may.0, may.1, may.3, may.2))
-      (takes.0, takes.1, takes.2, all_of (Took h n) takes.0 (λ at there. let took = (takes.3 at).1 there in (took.1, (took.0, took.2, took.3, took.4, took.5)))) is.fewer
+      let ns = n ∷ [] in
+      let all = counted kind inside each h (start kind) legal.legal.0 ns order legal.order_of.once legal.legal.1 in
+      let none = begins ns in
+      let sum = all.4 in
+      let few = chosen_most (Puts h ns) order all.0 all.2 (CanAdd h n)
+      (λ p there put. let place = place_of order p there in (put.0, put.1, not_failed kind h order legal place.0 p place.1, subst (Adds put.0) (sym (one_alone n put.2.0 put.2.1)) put.2.2))
+      is.puts (at_most (CanAdd h n) is.puts is.all_puts) in
+      let many = chosen_least (TakesOut h ns) order all.1 all.3 (TookOut h n)
+      (λ at took. (record { at = at; reply = took.2 }, legal.order_of.each_ok at took.1 took.2 tt took.4, (took.0, took.3, (n, (0, omega arith, refl), took.5)), refl))
+      is.takes (at_least (TookOut h n) is.takes is.all_takes) in
+      let fewer = is.fewer in
+      omega (arith, none, sum, few, many, fewer)
 
   -- it takes the item out
   abbrev TakesAt : Item → Placed → Type 0
@@ -201,6 +209,9 @@ module _ (h : List Event) (order : List Placed) (legal : IsLegalOrderAs Bag h or
   pub bag_remaining : (dequeue : ℕ) → IsRemaining h dequeue → ⊥
   bag_remaining = remaining_of Bag inside changes (λ ns. refl) empties h order legal
 
+  pub bag_surplus : (dequeue : ℕ) (ns : List Item) → IsSurplus h dequeue ns → ⊥
+  bag_surplus = surplus_of Bag inside changes (λ ns. refl) empties h order legal
+
 module _ (h : List Event) (order : List Placed) (legal : IsLegalOrderAs Fifo h order) where
   pub fifo_taken : (n : Item) → IsTaken h n → ⊥
   fifo_taken = taken_of Fifo waiting moves (λ ns. refl) none_waits h order legal
@@ -210,6 +221,9 @@ module _ (h : List Event) (order : List Placed) (legal : IsLegalOrderAs Fifo h o
 
   pub fifo_remaining : (dequeue : ℕ) → IsRemaining h dequeue → ⊥
   fifo_remaining = remaining_of Fifo waiting moves (λ ns. refl) none_waits h order legal
+
+  pub fifo_surplus : (dequeue : ℕ) (ns : List Item) → IsSurplus h dequeue ns → ⊥
+  fifo_surplus = surplus_of Fifo waiting moves (λ ns. refl) none_waits h order legal
 
   pub fifo_passed : (enqueue later dequeue : ℕ) (n other : Item) → IsPassed h enqueue later dequeue n other → ⊥
   fifo_passed enqueue later dequeue n other is = elim is.stays.open_later [

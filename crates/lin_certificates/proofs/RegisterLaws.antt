@@ -3,8 +3,7 @@ use Rattle.std.proofs.Common.{◌≡◌, ◌<◌, ◌≤◌, ℕ, List, Option, 
 use Rattle.std.proofs.lemmas.Bool.{cases_order}
 use Rattle.lin_events.specs.declared.items.Item.{Item}
 use Rattle.lin_events.specs.declared.calls.Call.{Call}
-use Rattle.lin_events.specs.declared.calls.Call.TheVariants.{Read, Cas}
-use Rattle.lin_events.specs.declared.calls.Reply.{Reply}
+use Rattle.lin_events.specs.declared.calls.Call.TheVariants.{Read}
 use Rattle.lin_events.specs.declared.calls.Reply.TheVariants as Replied
 use Rattle.lin_events.specs.declared.calls.Val.{Val}
 use Rattle.lin_events.specs.declared.calls.Val.TheVariants.{Nil, Item as Held}
@@ -16,7 +15,6 @@ use Rattle.lin_order.specs.Linearizable.{IsLegalOrderAs}
 use Rattle.lin_order.specs.Orders.{IsBefore, IsCall}
 use Rattle.lin_order.specs.lemmas.OneEnd.{one_call}
 use Rattle.lin_certificates.specs.Conflicts.{IsRegister, Leaves}
-use Rattle.lin_certificates.specs.Overwriting as overwriting
 use Rattle.lin_certificates.specs.lemmas.Conflicting.{found}
 use Rattle.lin_certificates.specs.lemmas.Overwriting.{NoneAhead, Seat, UpdatesAt, another, one_value, seat, updates_at}
 use Rattle.lin_certificates.specs.Words.{Gives, Needs, Returned}
@@ -24,12 +22,6 @@ use Rattle.lin_certificates.specs.Certificates.{AreCrossed, CanLeave, HasSource,
 use Rattle.lin_certificates.specs.declared.words.ReadSort.TheVariants as Sorted
 use Rattle.lin_certificates.proofs.Numbers.{the_one}
 use Rattle.lin_certificates.specs.lemmas.Standing.{At, not_failed, ok_there, one_place, stands_ahead, step_there}
-
--- what an operation needs, in the words of overwritten values
-needs_there : (call : Call) (reply : Reply) (v : Val) → Needs call reply v → overwriting.Needs call reply v
-needs_there Read (Replied.Value x) v needs = needs
-needs_there (Cas from to) reply v needs = needs
-needs_there call reply v needs = absurd needs
 
 nil_alone : (v : Val) (n : Item) → Nil ≡ v → v ≡ Held n → ⊥
 nil_alone v n nil some = let both = nil ∙ some in apart both
@@ -40,7 +32,7 @@ nil_alone v n nil some = let both = nil ∙ some in apart both
 module _ (kind : Kind) (is_register : IsRegister kind) (h : List Event) where
   module _ (order : List Placed) (legal : IsLegalOrderAs kind h order) where
     seated : (v : Val) (at : ℕ) → Returned h (λ call reply. Needs call reply v) at → Seat kind is_register h order legal v at
-    seated v at is = seat kind is_register h order legal v at (is.0, is.1, is.2, is.3, is.4, needs_there is.0 is.2 v is.5)
+    seated v at is = seat kind is_register h order legal v at is
 
     can_leave : (v : Val) (j : ℕ) (q : Placed) (c : Call) → At order j q → IsCall h q.at c → Leaves c v → CanLeave h v q.at
     can_leave v j q c there is leaves = (c, is, not_failed kind h order legal j q there, leaves)

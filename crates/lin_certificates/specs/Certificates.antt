@@ -13,7 +13,7 @@ use Rattle.lin_certificates.specs.Adding.{Adds}
 use Rattle.lin_certificates.specs.Conflicts.{Leaves}
 use Rattle.lin_certificates.specs.QueueConflicts.{Takes}
 use Rattle.lin_certificates.specs.SetConflicts.{Has, Lacks}
-use Rattle.lin_certificates.specs.Words.{AddsSome, Counts, Exactly, Gives, IsOfCalls, MayTakeAhead, Needs, Returned, Spends, StaysOpen, Updates}
+use Rattle.lin_certificates.specs.Words.{AddsSome, Concerns, Counts, Exactly, Gives, IsOfCalls, MayTakeAhead, Needs, Returned, Spends, StaysOpen, Updates}
 use Rattle.lin_certificates.specs.declared.words.Calls.{Calls}
 use Rattle.lin_certificates.specs.declared.words.Calls.TheVariants.{Acquires, Releases}
 use Rattle.lin_certificates.specs.declared.words.ReadSort.TheVariants as Sorted
@@ -58,6 +58,14 @@ Touched h v at = Returned h (λ call reply. Needs call reply v ⊎ Leaves call v
 -- so does one that leaves it, if an ok one touches it
 abbrev pub Touches : List Event → Val → ℕ → Type 0
 Touches h v at = Touched h v at ⊎ (CanLeave h v at × ((other : ℕ) × Touched h v other))
+
+-- what an operation needs is stale: another one that touches another value is before it, and each other one that leaves the value is before that one
+pub record IsStale (h : List Event) (at : ℕ) (v : Val) (over : ℕ) (w : Val) : Type 0 where
+  pub differ : v ≢ w
+  pub needed : Needed h v at
+  pub touched : Touched h w over
+  pub in_time : IsBefore h over at
+  pub each : (other : ℕ) → OtherCanLeave h v at other → IsBefore h other over
 
 abbrev pub IsLeftOnce : List Event → Val → Type 0
 IsLeftOnce h v = Exactly 1 (CanLeave h v)
@@ -146,6 +154,15 @@ pub record IsRemaining (h : List Event) (dequeue : ℕ) : Type 0 where
   pub takes : ℕ
   pub all_puts : Exactly puts (PutsBefore h dequeue)
   pub all_takes : Exactly takes (MayTakeAhead h dequeue)
+  pub fewer : takes < puts
+
+-- the dequeue found nothing, and more of the items were put in before it than other dequeues may have taken out ahead of it
+pub record IsSurplus (h : List Event) (dequeue : ℕ) (ns : List Item) : Type 0 where
+  pub found : Returned h (λ call reply. (call ≡ Dequeue) × (reply ≡ Replied.Value Nil)) dequeue
+  pub puts : ℕ
+  pub takes : ℕ
+  pub all_puts : Exactly puts (λ at. PutsBefore h dequeue at × Concerns h ns at)
+  pub all_takes : Exactly takes (λ at. MayTakeAhead h dequeue at × Concerns h ns at)
   pub fewer : takes < puts
 
 -- the operation is ok, took the item out, and is before the place; or it counts, puts the item in, and was invoked before the place
@@ -259,6 +276,7 @@ abbrev pub CertifiesRegister : List Event → Certificate → Type 0
 CertifiesRegister h (Form.Shape at) = Returned h (λ call reply. Gives Sorted.Members call reply) at
 CertifiesRegister h (Form.Unwritten at v) = IsUnwritten h at v
 CertifiesRegister h (Form.Overwritten at v) = IsOverwritten h at v
+CertifiesRegister h (Form.Stale at v over w) = IsStale h at v over w
 CertifiesRegister h (Form.Crossed v w early late back) = AreCrossed h v w early late back
 CertifiesRegister h (Form.Spent v) = IsSpent h v
 CertifiesRegister h _ = ⊥
@@ -267,6 +285,7 @@ abbrev pub CertifiesBag : List Event → Certificate → Type 0
 CertifiesBag h (Form.Taken n) = IsTaken h n
 CertifiesBag h (Form.Inside enqueue dequeue n) = IsInside h enqueue dequeue n
 CertifiesBag h (Form.Remaining dequeue) = IsRemaining h dequeue
+CertifiesBag h (Form.Surplus dequeue ns) = IsSurplus h dequeue ns
 CertifiesBag h _ = ⊥
 
 abbrev pub CertifiesFifo : List Event → Certificate → Type 0

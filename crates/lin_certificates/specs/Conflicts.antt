@@ -1,4 +1,4 @@
--- Operations of a register that can't stand in one legal order, where values are left by one operation each (Gibbons and Korach 1997).
+-- Registers, and calls that leave values in them.
 use Rattle.std.specs.Prelude.{◌≡◌}
 use Rattle.lin_events.specs.declared.calls.Call.{Call}
 use Rattle.lin_events.specs.declared.calls.Call.TheVariants.{Write, Cas}

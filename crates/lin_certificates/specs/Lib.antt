@@ -2,10 +2,8 @@ pub mod Words
 pub mod Certificates
 pub mod Laws
 pub mod Conflicts
-pub mod Overwriting
 pub mod Adding
 pub mod SetConflicts
 pub mod QueueConflicts
-pub mod BagConflicts
+pub mod Numbers
 pub mod lemmas
-pub mod inner

@@ -12,6 +12,7 @@ use Rattle.lin_events.specs.Operations.{IsOk, IsFailed}
 use Rattle.lin_order.specs.Orders.{IsBefore, IsCall}
 use Rattle.lin_certificates.specs.Adding.{Adds}
 use Rattle.lin_certificates.specs.Conflicts.{Leaves}
+use Rattle.lin_certificates.specs.Numbers.{OfOne}
 use Rattle.lin_certificates.specs.QueueConflicts.{Takes}
 use Rattle.lin_certificates.specs.SetConflicts.{Has, Lacks}
 use Rattle.lin_certificates.specs.declared.words.Calls.{Calls}
@@ -86,6 +87,14 @@ StaysOpen h P at = (call : Call) × IsCall h at call × ((end : ℕ) (reply : Re
 abbrev pub MayTakeAhead : List Event → ℕ → ℕ → Type 0
 MayTakeAhead h dequeue at = (at ≢ dequeue) × Counts h (λ call. call ≡ Dequeue) at
     × (Returned h (λ call reply. (call ≡ Dequeue) × (reply ≡ Replied.Value Nil)) at → ⊥) × (IsBefore h dequeue at → ⊥)
+
+-- the dequeue isn't known to have taken out anything but one of the items
+abbrev pub MayTakeOne : List Event → List Item → ℕ → Type 0
+MayTakeOne h ns at = (end : ℕ) (reply : Reply) → IsOk h at end reply → OfOne ns (Takes Dequeue reply)
+
+-- the operation puts one of the items in, or is such a dequeue
+abbrev pub Concerns : List Event → List Item → ℕ → Type 0
+Concerns h ns at = (call : Call) × IsCall h at call × (OfOne ns (Adds call) ⊎ ((call ≡ Dequeue) × MayTakeOne h ns at))
 
 -- the operation is one of these
 abbrev pub IsOfWhich : List Event → Which → ℕ → Type 0

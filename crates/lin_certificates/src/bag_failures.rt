@@ -1,6 +1,6 @@
-//! A search for operations of a bag that conflict. Whatever it finds is checked; that it finds something isn't promised.
-use crate::bag_conflict::BagConflict;
-use lin_events::{Body, Call, Event, Item, OutOfMemory, Reply, Val};
+//! A search for a certificate of a bag. Whatever it finds is checked; that it finds something isn't promised.
+use crate::certificate::Certificate;
+use lin_events::{Body, Call, Event, Item, Items, OutOfMemory, Reply, Val};
 use std::alloc::Global;
 use std::collections::{BTreeMap, HashMap};
 
@@ -43,7 +43,7 @@ impl Vain {
     }
 
     /// Items that are left more often than open dequeues can have taken them out.
-    fn conflict(&self, alloc: Global) -> Result<Option<BagConflict>, OutOfMemory> {
+    fn certificate(&self, alloc: Global) -> Result<Option<Certificate>, OutOfMemory> {
         if self.left.len() <= self.open {
             return Ok(None);
         }
@@ -54,9 +54,9 @@ impl Vain {
             }
             items.push(*item)?;
         }
-        Ok(Some(BagConflict::Inside {
+        Ok(Some(Certificate::Surplus {
             dequeue: self.dequeue,
-            items,
+            items: Items::from_vec(alloc, items)?,
         }))
     }
 }
@@ -127,25 +127,25 @@ impl Search {
     }
 
     /// What should put the item in failed.
-    fn not_put(&mut self, item: Item) -> Option<BagConflict> {
+    fn not_put(&mut self, item: Item) -> Option<Certificate> {
         let known = self.items.get_mut(&item)?;
         known.puts = known.puts.saturating_sub(1);
         if known.puts < known.takes {
-            Some(BagConflict::Overtaken { item })
+            Some(Certificate::Taken { item })
         } else {
             None
         }
     }
 
     /// The item was taken out.
-    fn take_out(&mut self, item: Item) -> Option<BagConflict> {
+    fn take_out(&mut self, item: Item) -> Option<Certificate> {
         let Some(known) = self.items.get_mut(&item) else {
-            return Some(BagConflict::Overtaken { item });
+            return Some(Certificate::Taken { item });
         };
         let first = known.ends.get(known.takes).copied();
         known.takes = known.takes.saturating_add(1);
         if known.puts < known.takes {
-            return Some(BagConflict::Overtaken { item });
+            return Some(Certificate::Taken { item });
         }
         if let Some(end) = first {
             self.inside.remove(&end);
@@ -159,7 +159,7 @@ impl Search {
         alloc: Global,
         dequeue: usize,
         taken: Option<Item>,
-    ) -> Result<Option<BagConflict>, OutOfMemory> {
+    ) -> Result<Option<Certificate>, OutOfMemory> {
         self.open = self.open.saturating_sub(1);
         let from = self
             .vain
@@ -167,8 +167,8 @@ impl Search {
             .min(self.vain.len());
         for vain in &mut self.vain[from..] {
             vain.settle(taken);
-            if let Some(conflict) = vain.conflict(alloc)? {
-                return Ok(Some(conflict));
+            if let Some(certificate) = vain.certificate(alloc)? {
+                return Ok(Some(certificate));
             }
         }
         Ok(None)
@@ -180,7 +180,7 @@ impl Search {
         alloc: Global,
         dequeue: usize,
         at: usize,
-    ) -> Result<Option<BagConflict>, OutOfMemory> {
+    ) -> Result<Option<Certificate>, OutOfMemory> {
         let mut vain = Vain {
             dequeue,
             end: at,
@@ -193,9 +193,9 @@ impl Search {
             }
             vain.left.push(*item)?;
         }
-        let conflict = vain.conflict(alloc)?;
+        let certificate = vain.certificate(alloc)?;
         self.vain.push(vain)?;
-        Ok(conflict)
+        Ok(certificate)
     }
 
     /// The dequeue returned at the place with what it found.
@@ -205,15 +205,15 @@ impl Search {
         dequeue: usize,
         found: Val,
         at: usize,
-    ) -> Result<Option<BagConflict>, OutOfMemory> {
+    ) -> Result<Option<Certificate>, OutOfMemory> {
         let Val::Item(item) = found else {
             return match self.settle(alloc, dequeue, None)? {
-                Some(conflict) => Ok(Some(conflict)),
+                Some(certificate) => Ok(Some(certificate)),
                 None => self.find_nothing(alloc, dequeue, at),
             };
         };
         match self.take_out(item) {
-            Some(conflict) => Ok(Some(conflict)),
+            Some(certificate) => Ok(Some(certificate)),
             None => self.settle(alloc, dequeue, Some(item)),
         }
     }
@@ -224,7 +224,7 @@ impl Search {
         alloc: Global,
         at: usize,
         event: &Event,
-    ) -> Result<Option<BagConflict>, OutOfMemory> {
+    ) -> Result<Option<Certificate>, OutOfMemory> {
         if let Body::Invoke(call) = &event.body {
             self.invoked(alloc, at, event.process, *call)?;
             return Ok(None);
@@ -245,15 +245,15 @@ impl Search {
     }
 }
 
-/// Operations that conflict, in the shortest beginning that has such ones, and the place of its last event.
+/// A certificate of the shortest beginning in which one is found, and the place of its last event.
 pub fn bag_failure(
     alloc: Global,
     events: &[Event],
-) -> Result<Option<(usize, BagConflict)>, OutOfMemory> {
+) -> Result<Option<(usize, Certificate)>, OutOfMemory> {
     let mut search = Search::new(alloc);
     for (at, event) in events.iter().enumerate() {
-        if let Some(conflict) = search.take_in(alloc, at, event)? {
-            return Ok(Some((at, conflict)));
+        if let Some(certificate) = search.take_in(alloc, at, event)? {
+            return Ok(Some((at, certificate)));
         }
     }
     Ok(None)

@@ -6,18 +6,18 @@ ghost use Rattle.lin_certificates.specs.Laws.{CertificatesExcludeOrders};
 
 use crate::locks::{is_counted, is_twice, is_within};
 use crate::operations::is_among;
-use crate::queues::{is_inside, is_passed, is_preceded, is_remaining, is_taken};
-use crate::registers::{are_crossed, is_overwritten, is_spent, is_unwritten};
+use crate::queues::{is_inside, is_passed, is_preceded, is_remaining, is_surplus, is_taken};
+use crate::registers::{are_crossed, is_overwritten, is_spent, is_stale, is_unwritten};
 use crate::sets::{are_split, is_late, is_lost, is_unadded};
 use crate::words::{Answers, Calls, ReadSort, Which};
-use lin_events::{Event, Item, OutOfMemory, Val};
+use lin_events::{Event, Item, Items, OutOfMemory, Val};
 use lin_objects::Kind;
 use lin_order::ends_of;
 use std::alloc::Global;
 
 /// Why the operations of an object have no legal order. Operations are named by the places of their invocations; the values that the form
 /// speaks of stand beside them.
-#[derive(Clone, Copy, Debug, PartialEq, Eq)]
+#[derive(PartialEq, Eq, Drop)]
 pub enum Certificate {
     /// The read of a set gave a value, or that of a register gave members.
     Shape {
@@ -32,6 +32,14 @@ pub enum Certificate {
     Overwritten {
         operation: usize,
         value: Val,
+    },
+    /// The operation needs the value, which is stale: another one that shows another value, ahead of it or behind it, is before the operation, and
+    /// whichever other one leaves the value is before that one.
+    Stale {
+        operation: usize,
+        value: Val,
+        over: usize,
+        held: Val,
     },
     /// One operation leaves the item, and one the value, or none where it is nil. Two operations touch the item and the value, the first
     /// before the second; and, unless the value is nil, another two the value and the item (Gibbons and Korach 1997).
@@ -76,6 +84,11 @@ pub enum Certificate {
     /// The dequeue found nothing. More enqueues were before it than other dequeues may have taken something out ahead of it.
     Remaining {
         dequeue: usize,
+    },
+    /// The dequeue found nothing. More enqueues of these items were before it than other dequeues may have taken one of them out ahead of it.
+    Surplus {
+        dequeue: usize,
+        items: Items,
     },
     /// The read has the item, and all adds of it failed.
     Unadded {
@@ -138,6 +151,12 @@ fn certifies_register(events: &[Event], ends: &[Option<usize>], certificate: &Ce
         Certificate::Overwritten { operation, value } => {
             is_overwritten(events, ends, *operation, *value)
         }
+        Certificate::Stale {
+            operation,
+            value,
+            over,
+            held,
+        } => is_stale(events, ends, (*operation, *value), (*over, *held)),
         Certificate::Crossed {
             value,
             item,
@@ -163,6 +182,9 @@ fn certifies_bag(events: &[Event], ends: &[Option<usize>], certificate: &Certifi
             item,
         } => is_inside(events, ends, *enqueue, *dequeue, *item),
         Certificate::Remaining { dequeue } => is_remaining(events, ends, *dequeue),
+        Certificate::Surplus { dequeue, items } => {
+            is_surplus(events, ends, *dequeue, items.as_slice())
+        }
         _ => false,
     }
 }

@@ -3,10 +3,10 @@ ghost use Rattle.std.specs.Prelude.{◌↔◌, ◌<◌, ◌≤◌, IsTrue, lengt
 ghost use Rattle.lin_events.specs.Operations.{IsFailed};
 ghost use Rattle.lin_order.specs.Orders.{IsBefore};
 ghost use Rattle.lin_order.specs.Tables.{IsNextTable};
-ghost use Rattle.lin_certificates.specs.Words.{Counts, IsOfAnswers, IsOfCalls, IsOfWhich, MayTakeAhead, Returned, StaysOpen};
+ghost use Rattle.lin_certificates.specs.Words.{Concerns, Counts, IsOfAnswers, IsOfCalls, IsOfWhich, MayTakeAhead, MayTakeOne, Returned, StaysOpen};
 
-use crate::words::{Answers, Calls, Which, is_of_answers, is_of_calls};
-use lin_events::Event;
+use crate::words::{Answers, Calls, Which, adds_one, is_of_answers, is_of_calls, takes_one};
+use lin_events::{Call, Event, Item};
 use lin_order::{call_at, is_failed, ok_end};
 
 /// Whether the operation at the place counts, and its call is of the sort.
@@ -79,6 +79,33 @@ fn may_take_ahead(events: &[Event], ends: &[Option<usize>], at: usize, dequeue: 
     let nothing = returned(events, ends, at, &Answers::FindsNothing);
     let behind = comes_before(events, ends, dequeue, at);
     !same & may & !nothing & !behind
+}
+
+/// Whether the dequeue at the place isn't known to have taken out anything but one of the items.
+fn may_take_one(events: &[Event], ends: &[Option<usize>], at: usize, items: &[Item]) -> bool
+    requires table { IsNextTable events.now ends.now }
+    requires within { at < length events.now }
+    ensures { IsTrue result ↔ MayTakeOne events.now items.now at }
+{
+    match ok_end(events, ends, at) {
+        Some((_, reply)) => takes_one(reply, items),
+        None => true,
+    }
+}
+
+/// Whether the operation at the place puts one of the items in, or is a dequeue that isn't known to have taken out anything else.
+pub fn concerns(events: &[Event], ends: &[Option<usize>], at: usize, items: &[Item]) -> bool
+    requires table { IsNextTable events.now ends.now }
+    requires within { at < length events.now }
+    ensures { IsTrue result ↔ Concerns events.now items.now at }
+{
+    let Some(call) = call_at(events, at) else {
+        return false;
+    };
+    match call {
+        Call::Dequeue => may_take_one(events, ends, at, items),
+        _ => adds_one(call, items),
+    }
 }
 
 /// Whether the operation at the place is ok, its call with its reply is of the sort, and it ran between the two places.

@@ -2,11 +2,11 @@
 ghost use Rattle.std.specs.Prelude.{◌↔◌, ℕ, IsTrue, MatchOption};
 ghost use Rattle.lin_order.specs.Orders.{IsBefore};
 ghost use Rattle.lin_order.specs.Tables.{IsNextTable};
-ghost use Rattle.lin_certificates.specs.Words.{Exactly, IsLastOf, IsOfWhich};
+ghost use Rattle.lin_certificates.specs.Words.{Concerns, Exactly, IsLastOf, IsOfWhich};
 
-use crate::operations::{comes_before, is_of_which};
+use crate::operations::{comes_before, concerns, is_of_which};
 use crate::words::Which;
-use lin_events::Event;
+use lin_events::{Event, Item};
 
 /// The last of these operations, if there is one.
 pub fn last_of(events: &[Event], ends: &[Option<usize>], which: &Which) -> Option<usize>
@@ -41,6 +41,25 @@ pub fn count_of(events: &[Event], ends: &[Option<usize>], which: &Which) -> usiz
     let mut count = 0;
     for at in 0..events.len() {
         if is_of_which(events, ends, at, which) {
+            count += 1;
+        }
+    }
+    count
+}
+
+/// How many of these operations concern one of the items.
+pub fn count_of_items(
+    events: &[Event],
+    ends: &[Option<usize>],
+    which: &Which,
+    items: &[Item],
+) -> usize
+    requires { IsNextTable events.now ends.now }
+    ensures { Exactly result (λ at. IsOfWhich events.now which.now at × Concerns events.now items.now at) }
+{
+    let mut count = 0;
+    for at in 0..events.len() {
+        if is_of_which(events, ends, at, which) && concerns(events, ends, at, items) {
             count += 1;
         }
     }

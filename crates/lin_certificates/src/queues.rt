@@ -1,11 +1,11 @@
 //! Certificates of queues, ordered or not.
 ghost use Rattle.std.specs.Prelude.{◌↔◌, ℕ, IsTrue};
 ghost use Rattle.lin_order.specs.Tables.{IsNextTable};
-ghost use Rattle.lin_certificates.specs.Certificates.{CanAdd, IsInside, IsPassed, IsPreceded, IsRemaining, IsTaken, Stays, TookOut};
+ghost use Rattle.lin_certificates.specs.Certificates.{CanAdd, IsInside, IsPassed, IsPreceded, IsRemaining, IsSurplus, IsTaken, Stays, TookOut};
 ghost use Rattle.lin_certificates.specs.Words.{Exactly};
 
 use crate::operations::{comes_before, is_among};
-use crate::passes::{all_behind, count_of, is_any};
+use crate::passes::{all_behind, count_of, count_of_items, is_any};
 use crate::words::{Answers, Calls, Which};
 use lin_events::{Event, Item};
 
@@ -112,6 +112,21 @@ pub fn is_remaining(events: &[Event], ends: &[Option<usize>], dequeue: usize) ->
     let takes = count_of(events, ends, &Which::TakesAhead(dequeue));
     let fewer = takes < puts;
     found & fewer
+}
+
+/// Whether the dequeue found nothing, though more of the items were put in before it than other dequeues may have taken out ahead of it.
+pub fn is_surplus(events: &[Event], ends: &[Option<usize>], dequeue: usize, items: &[Item]) -> bool
+    requires { IsNextTable events.now ends.now }
+    ensures { IsTrue result ↔ IsSurplus events.now dequeue items.now }
+{
+    let some = Answers::Called(Calls::AddsSome);
+    let nothing = Which::Returned(Answers::FindsNothing);
+    let before = Which::ReturnedBefore(some, dequeue);
+    let found = is_among(events, ends, dequeue, &nothing);
+    let puts = count_of_items(events, ends, &before, items);
+    let takes = count_of_items(events, ends, &Which::TakesAhead(dequeue), items);
+    let more = takes < puts;
+    found & more
 }
 
 /// Whether more items were put in ahead of the one that the dequeue took, which was put in at the one place or behind, than other dequeues may

@@ -2,7 +2,7 @@
 ghost use Rattle.std.specs.Prelude.{◌↔◌, ◌≡◌, IsTrue};
 ghost use Rattle.lin_events.specs.declared.calls.Val.{Val as ValOf};
 ghost use Rattle.lin_order.specs.Tables.{IsNextTable};
-ghost use Rattle.lin_certificates.specs.Certificates.{AreCrossed, HasSource, IsAhead, IsLeftAhead, IsLeftOnce, IsOverwritten, IsSpent, IsUnwritten, Touches, begun as begun_with};
+ghost use Rattle.lin_certificates.specs.Certificates.{AreCrossed, HasSource, IsAhead, IsLeftAhead, IsLeftOnce, IsOverwritten, IsSpent, IsStale, IsUnwritten, Touches, begun as begun_with};
 
 use crate::operations::{comes_before, is_among};
 use crate::passes::{all_ahead, count_of, is_any, last_of};
@@ -57,6 +57,30 @@ pub fn is_overwritten(
     needs & source & each
 }
 
+/// Whether the operation needs the value, though another one touches another value and is before it, and behind each other one that leaves the value.
+/// The pairs are the operation with the value, and the other one with what it touches.
+pub fn is_stale(
+    events: &[Event],
+    ends: &[Option<usize>],
+    needed: (usize, Val),
+    shown: (usize, Val),
+) -> bool
+    requires { IsNextTable events.now ends.now }
+    ensures { IsTrue result ↔ IsStale events.now needed.0 needed.1 shown.0 shown.1 }
+{
+    let (operation, value) = needed;
+    let (over, held) = shown;
+    let needing = Which::Returned(Answers::Needs(value));
+    let touching = Which::Returned(Answers::Touches(held));
+    let others = Which::CountsBut(Calls::Leaves(value), operation);
+    let same = value == held;
+    let needs = is_among(events, ends, operation, &needing);
+    let touches = is_among(events, ends, over, &touching);
+    let before = comes_before(events, ends, over, operation);
+    let ahead = all_ahead(events, ends, &others, over);
+    !same & needs & touches & before & ahead
+}
+
 /// Whether one operation that isn't failed leaves the value.
 fn is_left_once(events: &[Event], ends: &[Option<usize>], value: Val) -> bool
     requires { IsNextTable events.now ends.now }
@@ -72,10 +96,8 @@ fn touches(events: &[Event], ends: &[Option<usize>], operation: usize, value: Va
 {
     let touching = Which::Returned(Answers::Touches(value));
     let leaving = Which::Counts(Calls::Leaves(value));
-    let touched = is_among(events, ends, operation, &touching);
-    let leaves = is_among(events, ends, operation, &leaving);
-    let other = is_any(events, ends, &touching);
-    touched | leaves & other
+    is_among(events, ends, operation, &touching)
+        || (is_among(events, ends, operation, &leaving) && is_any(events, ends, &touching))
 }
 
 /// Whether one operation leaves the value, and two touch it and the other one, the first before the second.

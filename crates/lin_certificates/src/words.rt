@@ -1,6 +1,7 @@
 //! What operations do, in the words of which certificates are made.
 ghost use Rattle.std.specs.Prelude.{◌↔◌, ◌⊎◌, ◌≡◌, Contains, IsTrue, false};
 ghost use Rattle.lin_certificates.specs.Adding.{Adds};
+ghost use Rattle.lin_certificates.specs.Numbers.{OfOne};
 ghost use Rattle.lin_certificates.specs.Conflicts.{Leaves};
 ghost use Rattle.lin_certificates.specs.QueueConflicts.{Takes};
 ghost use Rattle.lin_certificates.specs.SetConflicts.{Has, Lacks};
@@ -174,6 +175,27 @@ fn is_member(members: &[Item], item: Item) -> bool
         }
     }
     false
+}
+
+/// Whether the call puts one of the items in.
+pub fn adds_one(call: &Call, items: &[Item]) -> bool
+    ensures { IsTrue result ↔ OfOne items.now (Adds call.now) }
+{
+    match call {
+        Call::Add(item) => is_member(items, *item),
+        Call::Enqueue(item) => is_member(items, *item),
+        _ => false,
+    }
+}
+
+/// Whether a dequeue with this reply took one of the items out.
+pub fn takes_one(reply: &Reply, items: &[Item]) -> bool
+    ensures { IsTrue result ↔ OfOne items.now (Takes Call.Dequeue reply.now) }
+{
+    match reply {
+        Reply::Value(Val::Item(item)) => is_member(items, *item),
+        _ => false,
+    }
 }
 
 /// Whether the set has the item behind the call with this reply.

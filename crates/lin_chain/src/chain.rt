@@ -46,11 +46,14 @@ pub struct Chain {
     pub(crate) searched: usize,
     /// Whether a witness couldn't go on since the last edit.
     pub(crate) stopped: bool,
+    /// Whether all events may be searched ahead of a first question, for an order that doesn't go on.
+    pub(crate) once: bool,
 }
 
 impl Chain {
-    /// No event was taken in.
-    pub fn new(alloc: Global, kind: Kind) -> Chain
+    /// No event was taken in. `once` says that no event is expected behind those of the first question; it decides how fast an answer is found,
+    /// and nothing else.
+    pub fn new(alloc: Global, kind: Kind, once: bool) -> Chain
         ensures kind { kind_in result ≡ kind }
         ensures mark { mark_in result ≡ unasked }
         ensures right { (h : List EventOf) → IsRight result h }
@@ -62,6 +65,7 @@ impl Chain {
             found: Found::Nothing,
             searched: 0,
             stopped: false,
+            once,
         }
     }
 

@@ -6,7 +6,8 @@
 //! the events from its place on, and at most 63 before it.
 //!
 //! `settle` answers: from a budget of 1,024 on the engine beside the frontiers goes on first (`extend`). A set or a lock is decided by
-//! it. Else frontiers take events in as long as that is worth it (`Patience`); then all events are searched (`lin_search`), unless more
+//! it. Else many events of a register are searched with few configurations, and what is found is kept as it is (`look_ahead`). Then
+//! frontiers take events in as long as that is worth it (`Patience`); then all events are searched (`lin_search`), unless more
 //! than half as many were there when they were searched last; and what is left the frontiers take in (`finish`). An order that stops is
 //! mended, or the failure sought there (`repair`), and the search comes before the frontiers. Which comes when is said by `turn`, which
 //! promises nothing: it decides how fast an answer comes and how many objects stay undecided, not whether the answer is right. This

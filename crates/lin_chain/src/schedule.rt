@@ -20,15 +20,20 @@ use crate::patience::{Patience, is_worth};
 use lin_compressed_frontier::{Scratch, is_counted};
 use lin_engines::{Back, End, Exact, Lane, Witness, copied, mend, suggest};
 use lin_events::{Event, Meter, OutOfMemory};
-use lin_objects::Any;
+use lin_objects::{Any, Kind};
 use lin_order::Placed;
 use lin_search::{Guide, finds_conflict, finds_failure, finds_order};
 
 /// So many turns at most are taken behind the engine that stands beside the frontiers.
-const TURNS: usize = 2;
+const TURNS: usize = 3;
+
+/// So many events of a register are first searched ahead. Of fewer ones frontiers are soon through.
+const MANY: usize = 128;
 
 /// What is done next.
 enum Turn {
+    /// All events of a register are searched for a legal order with few configurations, whose reads are known ahead.
+    Ahead,
     /// Frontiers take events in, as long as these are worth it.
     Frontier(Patience),
     /// All events are searched, for a legal order and else for a failure.
@@ -357,6 +362,7 @@ impl Chain {
         ensures scans { meter.new.scans ≡ meter.old.scans }
     {
         match turn {
+            Turn::Ahead => self.look_ahead(events, picks, budget, meter),
             Turn::Frontier(patience) => {
                 self.take_some(events, picks, budget, patience, meter, scratch)
             }
@@ -367,17 +373,27 @@ impl Chain {
 
     /// What is done next. It promises nothing: whatever it says, what comes of it is right.
     ///
-    /// Few tries of frontiers come before a search, since most objects are soon decided by these; behind it, where an order stopped that had spared them
-    /// the events since long.
+    /// A register of which nothing is known is searched ahead, where no further event is expected: frontiers would have to take in all that was
+    /// searched when one comes. Few tries of frontiers come before other searches, since most objects are soon decided by
+    /// these; behind them, where an order stopped that had spared them the events since long.
     fn turn(&self, number: usize, count: usize, budget: u32, meter: &Meter) -> Turn {
         if is_counted(budget as usize) {
             return Turn::Rest;
         }
         match (number, self.stopped) {
-            (0, false) | (1, true) => Turn::Frontier(Patience::little(meter, self.kind(), count)),
-            (0, true) | (1, false) => Turn::Search,
+            (0, false) if self.is_new() => Turn::Ahead,
+            (1, false) | (2, true) => Turn::Frontier(Patience::little(meter, self.kind(), count)),
+            (1, true) | (2, false) => Turn::Search,
             _ => Turn::Rest,
         }
+    }
+
+    /// Whether it is a register of which nothing is known, and which is asked about once.
+    fn is_new(&self) -> bool {
+        self.once
+            && matches!(self.kind(), Kind::Register | Kind::CasRegister)
+            && self.frontier.mark() == 0
+            && matches!(self.beside, Beside::Nothing)
     }
 
     /// Whether it is told of so many events whether they have a legal order.
@@ -413,6 +429,56 @@ impl Chain {
         {
             self.frontier.next(events, picks, budget, meter, scratch)?;
         }
+        Ok(())
+    }
+
+    /// Searches all of many events, of which none were searched, for a legal order with few configurations. That is a ninth of what may be spent for
+    /// searches, so as many of the events count as searched.
+    fn look_ahead(
+        &mut self,
+        events: &[Event],
+        picks: &[usize],
+        budget: u32,
+        meter: &mut Meter,
+    ) -> Result<(), OutOfMemory>
+        requires right { IsRight self.old (events_at events.now picks.now) }
+        requires retried { IsFor budget self.old }
+        requires inside { All (λ at. at < length events.now) picks.now }
+        requires well_formed { (functions : ItemOf → NameOf → Bool) × IsWellFormed functions (events_at events.now picks.now) }
+        ensures kept { IsKept budget (events_at events.now picks.now) self.old self.new }
+        ensures spent { OnOk result (IsSpent (mark_in self.old) (mark_in self.new) (length picks.now) meter.old.steps meter.new.steps) }
+        ensures most { IsSpentAtMost (mark_in self.old) (mark_in self.new) (length picks.now) meter.old.steps meter.new.steps }
+        ensures scans { meter.new.scans ≡ meter.old.scans }
+    {
+        if is_counted(budget as usize) || self.searched > 0 || picks.len() < MANY {
+            return Ok(());
+        }
+        self.find_ahead(events, picks, meter)?;
+        self.searched = picks.len() / 8;
+        Ok(())
+    }
+
+    /// Keeps a legal order of all events, if the search with few configurations finds one. It doesn't go on.
+    fn find_ahead(
+        &mut self,
+        events: &[Event],
+        picks: &[usize],
+        meter: &mut Meter,
+    ) -> Result<(), OutOfMemory>
+        requires right { IsRight self.old (events_at events.now picks.now) }
+        requires inside { All (λ at. at < length events.now) picks.now }
+        ensures right { IsRight self.new (events_at events.now picks.now) }
+        ensures others { self.new ≡ record self.old { beside = self.new.beside; found = self.new.found } }
+        ensures mark { mark_beside self.old.beside ≤ mark_beside self.new.beside }
+        ensures steps { meter.new.steps ≤ meter.old.steps + 2 * length picks.now }
+        ensures scans { meter.new.scans ≡ meter.old.scans }
+    {
+        let alloc = self.frontier.engine().alloc();
+        let Some(order) = finds_order(alloc, self.kind(), Guide::Ahead, events, picks, meter)?
+        else {
+            return Ok(());
+        };
+        self.found = Found::Order(order, picks.len());
         Ok(())
     }
 

@@ -26,6 +26,8 @@ const LINE: usize = 19;
 /// The texts of a picture.
 #[derive(Clone, Copy)]
 pub(crate) struct Texts<'a> {
+    /// What is told to whoever points at the picture: the head, with values whole.
+    pub(crate) title: &'a [u8],
     pub(crate) head: &'a [u8],
     /// The lines under the rows.
     pub(crate) lines: &'a [&'a [u8]],
@@ -87,7 +89,7 @@ fn put_opening(
     alloc: Global,
     text: &mut Vec<u8>,
     size: Size,
-    head: &[u8],
+    title: &[u8],
 ) -> Result<(), AllocError> {
     put(
         alloc,
@@ -102,7 +104,7 @@ fn put_opening(
             Piece::Plain(" "),
             Piece::Number(size.height),
             Piece::Plain("\" font-family=\"monospace\" font-size=\"13\">\n<title>"),
-            Piece::Words(head, usize::MAX),
+            Piece::Words(title, usize::MAX),
             Piece::Plain("</title>\n"),
         ],
     )
@@ -212,7 +214,7 @@ fn has_named(layout: &Layout) -> bool {
 fn inside_of(alloc: Global, scene: &Scene, texts: &Texts) -> Result<Vec<u8>, AllocError> {
     let mut text = Vec::new(alloc);
     let size = size_of(scene, texts);
-    put_opening(alloc, &mut text, size, texts.head)?;
+    put_opening(alloc, &mut text, size, texts.title)?;
     put_colours(&mut text, scene.layout.right)?;
     put_head(alloc, &mut text, size, texts.head)?;
     let layout = scene.layout;

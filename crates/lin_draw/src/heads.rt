@@ -1,6 +1,8 @@
 //! The texts over and under the rows.
 ghost use Rattle.std.specs.Prelude.{◌<◌, IfSome, length};
 
+use crate::labels::put_whole;
+use crate::operations::Operation;
 use lin_answers::{Answer, Present};
 use lin_events::Item;
 use lin_names::Names;
@@ -122,7 +124,7 @@ fn failure_in<'a>(answer: &Answer, lines: &'a [u8]) -> Option<(&'a [u8], &'a [u8
     }
 }
 
-/// Puts last what the answer is about: the object, of a no with the failing operation.
+/// Puts last what the answer is about: the object, of a no with the failing operation, as the explanation tells it, or whole where it is given.
 fn put_subject(
     text: &mut Vec<u8>,
     present: &Present<'_>,
@@ -130,21 +132,28 @@ fn put_subject(
     answer: &Answer,
     key: Option<Item>,
     lines: &[u8],
+    failing: Option<&Operation>,
 ) -> Result<(), AllocError> {
     let Some(key) = key else {
         return text.extend_from_slice(b", no events");
     };
-    match failure_in(answer, lines) {
-        Some((front, behind)) => {
+    match (failure_in(answer, lines), failing) {
+        (Some((_, behind)), Some(operation)) => {
+            put_object(text, present, names, key)?;
+            text.extend_from_slice(b": ")?;
+            put_whole(text, names, operation, operation.reply)?;
+            text.extend_from_slice(behind)
+        }
+        (Some((front, behind)), None) => {
             text.extend_from_slice(b", ")?;
             text.extend_from_slice(front)?;
             text.extend_from_slice(behind)
         }
-        None => put_object(text, present, names, key),
+        (None, _) => put_object(text, present, names, key),
     }
 }
 
-/// The head of a picture.
+/// The head of a picture; with the failing operation its title, which has values whole.
 pub(crate) fn head_of(
     alloc: Global,
     present: &Present<'_>,
@@ -152,10 +161,11 @@ pub(crate) fn head_of(
     answer: &Answer,
     key: Option<Item>,
     lines: &[u8],
+    failing: Option<&Operation>,
 ) -> Result<Vec<u8>, AllocError> {
     let mut head = Vec::new(alloc);
     put_answer(&mut head, answer)?;
-    put_subject(&mut head, present, names, answer, key, lines)?;
+    put_subject(&mut head, present, names, answer, key, lines, failing)?;
     Ok(head)
 }
 

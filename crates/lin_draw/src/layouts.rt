@@ -315,6 +315,16 @@ fn points_of(
 }
 
 impl<'a> Layout<'a> {
+    /// The operation that fails, if one does: it is drawn before others are.
+    pub(crate) fn failing(&self) -> Option<&Operation<'a>> {
+        for bar in self.bars.as_slice() {
+            if bar.is_failing {
+                return Some(&bar.operation);
+            }
+        }
+        None
+    }
+
     /// Lets the rows end at `right`, and the events stand farther apart where that gives room.
     pub(crate) fn widen(&mut self, right: usize) {
         let room = right.saturating_sub(self.right);

@@ -11,6 +11,7 @@ use crate::fitting::fit;
 use crate::heads::{Subject, head_of, left_out, subject_of, told_of};
 use crate::layouts::{Layout, MARGIN, Object};
 use crate::legal::{Orders, order_before};
+use crate::operations::Operation;
 use crate::own::{Own, own_of};
 use lin_answers::{Answer, Present};
 use lin_events::{Item, OutOfMemory};
@@ -18,7 +19,7 @@ use lin_names::Names;
 use lin_order::{Placed, ends_of};
 use lin_tables::failing_operation;
 use lin_texts::Place;
-use std::alloc::Global;
+use std::alloc::{AllocError, Global};
 
 /// What is drawn, and what is known of it.
 #[derive(Clone, Copy)]
@@ -113,6 +114,23 @@ fn finished(
     Ok(drawn(alloc, &scene, texts)?)
 }
 
+/// The head of the picture; with the failing operation its title.
+fn head_for(
+    alloc: Global,
+    asked: &Sketch,
+    failing: Option<&Operation>,
+) -> Result<Vec<u8>, AllocError> {
+    head_of(
+        alloc,
+        asked.present,
+        asked.names,
+        asked.answer,
+        asked.subject.key,
+        asked.wanted.lines,
+        failing,
+    )
+}
+
 /// The picture of the object, of whose operations these may be drawn.
 fn pictured(
     alloc: Global,
@@ -125,17 +143,12 @@ fn pictured(
 {
     let Choice { chosen, all } = choice;
     let layout = fit(alloc, object, chosen, asked.wanted.last.is_none())?;
-    let head = head_of(
-        alloc,
-        asked.present,
-        asked.names,
-        asked.answer,
-        asked.subject.key,
-        asked.wanted.lines,
-    )?;
+    let head = head_for(alloc, asked, None)?;
+    let title = head_for(alloc, asked, layout.failing())?;
     let more = left_out(alloc, all.saturating_sub(layout.bars.len()))?;
     let lines = told_of(alloc, asked.wanted.lines)?;
     let texts = Texts {
+        title: title.as_slice(),
         head: head.as_slice(),
         lines: lines.as_slice(),
         more: more.as_slice(),

@@ -1,5 +1,6 @@
 pub mod Certain
 pub mod Counts
+pub mod Events
 pub mod Failures
 pub mod Heads
 pub mod IllFormed

@@ -16,10 +16,10 @@ use Rattle.lin_explain.specs.declared.parts.Choices.{Choices}
 abbrev pub IsPassed : Kind → List Event → ℕ → Type 0
 IsPassed kind h budget = (n : ℕ) × IsOver (start kind) (Step kind) (take n h) budget
 
--- how many there are, and the words of those that are listed; nothing where the budget is passed
+-- how many there are, and the whole words of those that are listed; nothing where the budget is passed
 abbrev pub AreChoices : Option Listed → Choices → Type 0
 AreChoices None choices = (choices.count ≡ None) × (choices.some.items ≡ [])
-AreChoices (Some listed) choices = (choices.count ≡ Some listed.count) × (map (λ words. words.items) choices.some.items ≡ map (λ entry. entry.words.items) listed.entries.items)
+AreChoices (Some listed) choices = (choices.count ≡ Some listed.count) × (map (λ words. words.items) choices.some.items ≡ map (λ words. words.items) listed.whole.items)
 
 module _ (names : List (List ℕ)) where
   -- all replies and states are known, or the budget is passed

@@ -3,6 +3,7 @@
 
 mod certain;
 mod counts;
+mod events;
 mod failures;
 mod fallen;
 mod heads;

@@ -8,6 +8,7 @@ use lin_texts::Place;
 pub struct Spot {
     /// Its position in the whole history.
     pub at: usize,
+    /// Its whole words.
     pub words: Vec<u8>,
     /// Where it stands in the recording, if there is one.
     pub place: Option<Place>,
@@ -18,7 +19,7 @@ pub struct Spot {
 pub struct Choices {
     /// How many there are, where all are known.
     pub count: Option<usize>,
-    /// The words of those that the text lists, in its order.
+    /// The whole words of those that the text lists, in its order.
     pub some: Vec<Vec<u8>>,
 }
 

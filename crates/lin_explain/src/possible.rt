@@ -9,7 +9,6 @@ ghost use Rattle.lin_explain.specs.Possible.{AreChoices, IsPossibleText};
 use crate::parts::Choices;
 use lin_events::OutOfMemory;
 use lin_possibilities::{Before, Listed, Outcomes, Possible, outcomes_of, put_outcomes};
-use lin_tables::ListLine;
 use std::alloc::{AllocError, Global};
 
 /// What is told to be possible, in parts.
@@ -19,19 +18,18 @@ pub(crate) struct Possibilities {
     pub(crate) states: Choices,
 }
 
-/// The words of the entries.
-fn words_of(alloc: Global, entries: &[ListLine]) -> Result<Vec<Vec<u8>>, AllocError>
-    ensures { IfOk result (λ all. map (λ words. words.items) all.items ≡ map (λ entry. entry.words.items) entries.now) }
+/// The same words.
+fn copy_of(alloc: Global, whole: &[Vec<u8>]) -> Result<Vec<Vec<u8>>, AllocError>
+    ensures { IfOk result (λ all. map (λ words. words.items) all.items ≡ map (λ words. words.items) whole.now) }
 {
     let mut all = Vec::new(alloc);
-    for entry in entries {
-        let words = Vec::from_slice(alloc, entry.words.as_slice())?;
-        all.push(words)?;
+    for words in whole {
+        all.push(Vec::from_slice(alloc, words.as_slice())?)?;
     }
     Ok(all)
 }
 
-/// What is listed, if it is known.
+/// What is listed, by its whole words, if it is known.
 fn choices_of(alloc: Global, listed: Option<&Listed>) -> Result<Choices, AllocError>
     ensures { IfOk result (AreChoices (option_map (λ l. l.now) listed.entry)) }
 {
@@ -39,7 +37,7 @@ fn choices_of(alloc: Global, listed: Option<&Listed>) -> Result<Choices, AllocEr
         Some(listed) => {
             Ok(Choices {
                 count: Some(listed.count),
-                some: words_of(alloc, listed.entries.as_slice())?,
+                some: copy_of(alloc, listed.whole.as_slice())?,
             })
         }
         None => {

@@ -2,10 +2,10 @@
 ghost use Rattle.std.specs.Prelude.{◌≡◌, IfOk, option_map};
 ghost use Rattle.lin_explain.specs.Parts.{IsSpot, place_of};
 
+use crate::events::put_whole_event;
 use crate::parts::Spot;
 use lin_events::{Event, OutOfMemory};
 use lin_names::Names;
-use lin_tables::put_event;
 use lin_texts::Place;
 use std::alloc::Global;
 
@@ -41,7 +41,7 @@ pub(crate) fn spot_of(
     ensures { IfOk result (IsSpot origin.now.names.now (option_map (λ p. p.now) origin.now.places) at event.now) }
 {
     let mut words = Vec::new(alloc);
-    put_event(&mut words, origin.names, event)?;
+    put_whole_event(&mut words, origin.names, event)?;
     Ok(Spot {
         at,
         words,

@@ -1,7 +1,8 @@
 -- Lines of a text.
-use Rattle.std.proofs.Common.{◌≡◌, ℕ, suc, ◌+◌, ◌-◌, ◌≤◌, List, ◌++◌, length, take, drop, filter, sym, ap, arith, ◌∙◌, length-append}
-use Rattle.std.proofs.lemmas.List.{drop-take, take-append-drop, take-take, take-append-le, drop-drop}
+use Rattle.std.proofs.Common.{◌≡◌, ℕ, zero, suc, ◌+◌, ◌-◌, ◌≤◌, Bool, true, false, if◌then◌else◌, cond, List, ◌∷◌, ◌++◌, length, take, drop, filter, slice_index, sym, ap, arith, ◌∙◌, length-append}
+use Rattle.std.proofs.lemmas.List.{drop-take, drop_all, drop_more, take-append-drop, take-take, take-append-le, drop-drop}
 use Rattle.std.proofs.lemmas.List.Elements.{filter-append}
+use Rattle.memchr.specs.Find.{places_from}
 use Rattle.lin_bytes.specs.Bytes.{is_newline}
 use Rattle.lin_formats.specs.Places.{newlines, place_at}
 use Rattle.lin_texts.specs.declared.place.Place.{Place}
@@ -38,3 +39,17 @@ place_behind text whole p at to from is here later =
     let moved : place_at whole ((p + at) + (to - at)) ≡ record { offset = (p + at) + (to - at); line = suc (newlines (take (p + at) whole)) + newlines (take (to - at) (drop (p + at) whole)) } =
     place_later whole (p + at) (to - at) in
     rw (here, bytes) (sym moved ∙ ap (place_at whole) far)
+
+one_or_none : (b : Bool) (i x : ℕ) (ps ys : List ℕ) → length ps ≡ length ys → length (if b then i ∷ ps else ps) ≡ length (cond b (x ∷ ys) ys)
+one_or_none true i x ps ys same = ap suc same
+one_or_none false i x ps ys same = same
+
+-- from a place on as many places as bytes pass a test
+pub as_many : (test : ℕ → Bool) (hay : List ℕ) (n i : ℕ) → i + n ≡ length hay → length (places_from test hay i n) ≡ length (filter test (drop i hay))
+unfolding places_from
+as_many test hay zero i ends = sym (ap (λ l. length (filter test l)) (drop_all i hay (omega arith)))
+as_many test hay (suc n) i ends =
+    let later = as_many test hay n (i + 1) (omega arith) in
+    let here = drop_more hay i 0 (omega arith) in
+    one_or_none (test (slice_index hay i)) i (slice_index hay i) (places_from test hay (i + 1) n) (filter test (drop (i + 1) hay)) later
+    ∙ sym (ap (λ l. length (filter test l)) here)

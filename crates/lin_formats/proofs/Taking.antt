@@ -8,9 +8,13 @@ use Rattle.lin_history.specs.Stream.{IsStreamBy, IsStream}
 use Rattle.lin_history.specs.Sees.{Feeds, Followed, IsTakenIn, Sees, TakesAll, is_fault}
 use Rattle.lin_history.specs.declared.follow.FollowFault.{FollowFault}
 use Rattle.lin_history.specs.declared.follow.FollowFault.TheVariants as fault
-use Rattle.lin_formats.specs.Histories.{StopsFor, is_read_failed}
+use Rattle.lin_history.specs.Counts.{Passed}
+use Rattle.lin_history.specs.PassedMaps.{IsPassed}
+use Rattle.lin_formats.specs.Histories.{AreAllPassed, IsPassedIn, StopsFor, passed_with}
 use Rattle.lin_formats.specs.Inputs.{limit, refusal_of, AreRefused, IsTooMany}
 use Rattle.lin_formats.specs.Intakes.{AreSeen, IsFed, IsFedOn, IsTooMuch}
+use Rattle.lin_formats.specs.declared.inputs.History.{History}
+use Rattle.lin_formats.specs.declared.inputs.History.TheVariants.{Whole, Refused}
 use Rattle.lin_formats.specs.declared.verdicts.Refusal.{Refusal}
 use Rattle.lin_formats.specs.declared.verdicts.Refusal.TheVariants.{Edn, Event as OfEvent, Truncated}
 use Rattle.lin_texts.specs.declared.faults.RunFault.{RunFault}
@@ -136,15 +140,6 @@ no_other_end names follow bytes events f r numbers fed ends is =
     let reading = some_reading follow numbers.0 in
     no_such_end reading bytes events f r is (subst (IsStream reading bytes events) ends (stream_of names follow bytes events fed reading (refl, numbers.1)))
 
--- what can't fail didn't
-pub never_fails : {T E : Type 0} (r : Result T E) (P : T → Type 0) (e : E) → MatchResult r P (λ _. ⊥) → IsErrOf r e → ⊥
-never_fails (Ok x) P e said is = cc
-never_fails (Err f) P e said is = said
-
-pub no_read_failed : {T : Type 0} (r : Result T RunFault) (P : T → Type 0) → MatchResult r P (λ _. ⊥) → is_read_failed r ≡ false
-no_read_failed (Ok x) P said = refl
-no_read_failed (Err f) P said = absurd said
-
 -- a follower of no bytes
 pub fed_nothing : (names : List (List ℕ)) (follow : Followed) (events : List Event) → ((m : Reading) → IsReading follow.keyed names m → Sees m follow [] []) → follow.ready ≡ [] → events ≡ []
     → IsFed names follow [] events
@@ -153,3 +148,15 @@ fed_nothing names follow events sees ready none = record {
   none_ready = ready;
   within = omega (arith, ap length none);
 }
+
+-- what is passed over in a text that was fed whole
+pub fed_passed : (names : List (List ℕ)) (follow : Followed) (bytes : List ℕ) (events : List Event) → (number : Numbering) × AgreesWith names number
+    → IsFed names follow bytes events → follow.outcome ≡ Ok tt → IsPassed bytes follow.passed_over
+fed_passed names follow bytes events numbers fed whole =
+    let over = (fed.sees (some_reading follow numbers.0) (refl, numbers.1)).over (ap is_fault whole) in
+    (over.0, over.3 whole, over.2)
+
+-- what is kept in mind of it
+pub passed_noted : (text : List ℕ) (history : History) (p q : Passed) → AreAllPassed text history p → q ≡ passed_with history p → IsPassedIn text history q
+passed_noted text (Whole es) p q all is = subst (IsPassed text) (sym is) all
+passed_noted text (Refused refusal) p q all is = is

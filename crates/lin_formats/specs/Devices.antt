@@ -1,5 +1,6 @@
 -- Readers and writers that count their failures.
 use Rattle.std.specs.Prelude.{◌≡◌, ℕ, ◌+◌, ◌-◌, ◌^◌, ◌==◌, ◌&&◌, nat_lt, min, Bool, true, false, List, length, Option, Result, Ok, Err}
+use Rattle.lin_history.specs.Counts.{Passed}
 use Rattle.lin_formats.specs.declared.verdicts.Refusal.{Refusal}
 use Rattle.lin_formats.specs.declared.counted.Counted.{Counted}
 
@@ -14,6 +15,10 @@ failures_of c = c.failures
 -- whether the history that was read from it last was whole and had no event
 abbrev pub is_empty_of : {T : Type 0} → Counted T → Bool
 is_empty_of c = c.is_empty
+
+-- the maps that were passed over in the history that was read from it last
+abbrev pub passed_of : {T : Type 0} → Counted T → Passed
+passed_of c = c.passed
 
 -- why what was read from it last is refused, if it is
 abbrev pub refused_of : {T : Type 0} → Counted T → Option Refusal

@@ -1,6 +1,8 @@
 -- What reading a file comes to.
 use Rattle.std.specs.Prelude.{◌≡◌, ◌==◌, ℕ, length, nat_lt, if◌then◌else◌, Bool, true, false, List, Option, Result, Ok, Err}
 use Rattle.std.specs.Io.KnownBytes.{IsAtEnd}
+use Rattle.lin_history.specs.Counts.{Passed, none_passed}
+use Rattle.lin_history.specs.PassedMaps.{IsPassed}
 use Rattle.lin_formats.specs.Inputs.{AreRefused, AreRefusedFor, IsEnough, IsWhole}
 use Rattle.lin_formats.specs.declared.verdicts.Refusal.{Refusal}
 use Rattle.lin_formats.specs.declared.verdicts.Refusal.TheVariants as refusal
@@ -24,9 +26,24 @@ abbrev pub says_nothing : History → Bool
 says_nothing (Whole events) = length events.items == 0
 says_nothing (Refused refusal) = false
 
--- Whether a file says a whole history of no event, however many are wanted; by these names the bytes say what it says.
-abbrev pub IsNoted : Bool → List (List ℕ) → List ℕ → Bool → Type 0
-IsNoted keyed names text is_empty = (history : History) × IsHistory keyed names text history × (is_empty ≡ says_nothing history)
+-- of a whole history all maps are told that are passed over
+abbrev pub AreAllPassed : List ℕ → History → Passed → Type 0
+AreAllPassed text (Whole events) passed = IsPassed text passed
+AreAllPassed text (Refused refusal) passed = Unit {0}
+
+-- and of one that is refused none
+abbrev pub passed_with : History → Passed → Passed
+passed_with (Whole events) passed = passed
+passed_with (Refused refusal) passed = none_passed
+
+abbrev pub IsPassedIn : List ℕ → History → Passed → Type 0
+IsPassedIn text (Whole events) passed = IsPassed text passed
+IsPassedIn text (Refused refusal) passed = passed ≡ none_passed
+
+-- Whether a file says a whole history of no event, however many are wanted, and which of its maps are passed over; by these names the bytes
+-- say what it says.
+abbrev pub IsNoted : Bool → List (List ℕ) → List ℕ → Bool → Passed → Type 0
+IsNoted keyed names text is_empty passed = (history : History) × IsHistory keyed names text history × (is_empty ≡ says_nothing history) × IsPassedIn text history passed
 
 -- by these names the bytes say this, where so many events are wanted at least
 abbrev pub IsHistoryFor : ℕ → Bool → List (List ℕ) → List ℕ → History → Type 0

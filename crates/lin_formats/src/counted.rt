@@ -5,34 +5,39 @@ ghost use Rattle.std.specs.Io.KnownBytes.{Keeps, ReadConsumes, WriteAppends};
 
 use crate::inputs::History;
 use crate::verdicts::Refusal;
+use lin_history::PassedOver;
 use std::io;
 use std::io::{Read, Write};
 
 /// A reader or a writer that counts its failures: errors of the device, and writes of some bytes that take none. Of a reader it is kept in
-/// mind whether it gave a whole history of no event, and why it was refused last.
+/// mind whether it gave a whole history of no event, which maps of one were passed over, and why it was refused last.
 #[derive(Drop)]
 pub struct Counted<T> {
     inner: T,
     failures: u64,
     is_empty: bool,
+    passed: PassedOver,
     refused: Option<Refusal>,
 }
 
 impl<T> Counted<T> {
-    ghost use Rattle.lin_formats.specs.Devices.{device_of, failures_of, is_empty_of, refused_of};
-    ghost use Rattle.lin_formats.specs.Histories.{says_nothing};
+    ghost use Rattle.lin_formats.specs.Devices.{device_of, failures_of, is_empty_of, passed_of, refused_of};
+    ghost use Rattle.lin_formats.specs.Histories.{passed_with, says_nothing};
+    ghost use Rattle.lin_history.specs.Counts.{none_passed};
 
     /// The device, with no failure so far.
     pub fn new(inner: T) -> Counted<T>
         ensures device { device_of result ≡ inner }
         ensures none { failures_of result ≡ 0 }
         ensures unread { is_empty_of result ≡ false }
+        ensures unpassed { passed_of result ≡ none_passed }
         ensures unrefused { refused_of result ≡ None }
     {
         Counted {
             inner,
             failures: 0,
             is_empty: false,
+            passed: PassedOver::none(),
             refused: None,
         }
     }
@@ -42,6 +47,14 @@ impl<T> Counted<T> {
         ensures { result ≡ is_empty_of self.now }
     {
         self.is_empty
+    }
+
+    /// The maps that were passed over in the history that was read from it last, since a keyword other than `:nemesis` is their process;
+    /// none where it was refused.
+    pub fn passed(&self) -> PassedOver
+        ensures { result ≡ passed_of self.now }
+    {
+        self.passed.copy()
     }
 
     /// Why what was read from it last is refused, if it is.
@@ -58,16 +71,23 @@ impl<T> Counted<T> {
         self.refused = refused;
     }
 
-    /// Keeps in mind whether this history, which was read from it, is whole and has no event.
-    pub fn has_given(&mut self, history: &History)
+    /// Keeps in mind whether this history, which was read from it, is whole and has no event, and which maps were passed over in it.
+    pub fn has_given(&mut self, history: &History, passed: PassedOver)
         ensures device { device_of self.new ≡ device_of self.old }
         ensures failures { failures_of self.new ≡ failures_of self.old }
         ensures noted { is_empty_of self.new ≡ says_nothing history.now }
+        ensures passed { passed_of self.new ≡ passed_with history.now passed }
     {
-        self.is_empty = match history {
-            History::Whole(events) => events.is_empty(),
-            History::Refused(_) => false,
-        };
+        match history {
+            History::Whole(events) => {
+                self.is_empty = events.is_empty();
+                self.passed = passed;
+            }
+            History::Refused(_) => {
+                self.is_empty = false;
+                self.passed = PassedOver::none();
+            }
+        }
     }
 
     /// How many calls have failed, up to the greatest number.

@@ -4,18 +4,18 @@ ghost use Rattle.std.specs.Io.KnownBytes.{Consumes, IsAtEnd};
 ghost use Rattle.lin_events.specs.declared.events.Event.{Event as EventOf};
 ghost use Rattle.lin_history.specs.Sees.{is_fault};
 ghost use Rattle.lin_names.specs.Names.{AgreesWith, AreEachOnce, Begins, Numbering};
-ghost use Rattle.lin_formats.specs.Devices.{device_of, failures_of, is_empty_of, Counts};
+ghost use Rattle.lin_formats.specs.Devices.{device_of, failures_of, is_empty_of, passed_of, Counts};
 ghost use Rattle.lin_formats.specs.Intakes.{AreSeen, IsFed, IsFedOn, IsTooMuch};
 ghost use Rattle.lin_formats.specs.Inputs.{limit, AreRefused, IsTooMany};
 ghost use Rattle.lin_formats.specs.Inputs as inputs_said;
 ghost use Rattle.lin_formats.specs.Histories as histories_said;
 ghost use Rattle.lin_formats.specs.Verdicts.{IsReadTooFar};
-ghost use Rattle.lin_formats.specs.Histories.{EndsFor, IsHistory, IsHistoryFor, IsNoted, StopsFor, is_read_failed};
+ghost use Rattle.lin_formats.specs.Histories.{AreAllPassed, EndsFor, IsHistory, IsHistoryFor, IsNoted, StopsFor, is_read_failed};
 
 use crate::counted::Counted;
 use crate::verdicts::Refusal;
 use lin_events::{Event, OutOfMemory};
-use lin_history::{Follow, FollowFault};
+use lin_history::{Follow, FollowFault, PassedOver};
 use lin_names::{Names, names_grow};
 use lin_texts::RunFault;
 use std::alloc::Global;
@@ -121,8 +121,9 @@ pub fn finish_history(
     events: Vec<Event>,
     names: &Names,
 ) -> Result<History, RunFault>
-    ensures { (bytes : List ℕ) → IsFed names.now follow.now bytes events.items
+    ensures said { (bytes : List ℕ) → IsFed names.now follow.now bytes events.items
         → MatchResult result (IsHistory follow.now.keyed names.now bytes) (λ _. ⊥) }
+    ensures passed { IfOk result (λ history. (bytes : List ℕ) → IsFed names.now follow.now bytes events.items → AreAllPassed bytes history follow.now.passed_over) }
 {
     some_numbering(names);
     match follow.finish() {
@@ -131,7 +132,7 @@ pub fn finish_history(
     }
 }
 
-/// The history in a file, read to its end or to a fault, however many events it has.
+/// The history in a file, read to its end or to a fault, however many events it has, and its maps that are passed over.
 ///
 /// Errors: `ReadFailed`; want of memory; `TooMuch` where the file has more than 1,099,511,627,776 bytes.
 pub(crate) fn read_stream<R: Read>(
@@ -139,14 +140,15 @@ pub(crate) fn read_stream<R: Read>(
     keyed: bool,
     file: &mut Counted<R>,
     names: &mut Names,
-) -> Result<History, RunFault>
+) -> Result<(History, PassedOver), RunFault>
     requires { failures_of file.old < u64.MAX }
     ensures begun { Begins names.old names.new }
-    ensures read { IfOk result (λ history. (bytes : List ℕ)
+    ensures read { IfOk result (λ read. (bytes : List ℕ)
         × Consumes (R.remaining (device_of file.old)) (R.remaining (device_of file.new)) bytes
         × (length bytes ≤ 2 ^ 40)
-        × EndsFor history (R.remaining (device_of file.new))
-        × IsHistory keyed names.new bytes history) }
+        × EndsFor read.0 (R.remaining (device_of file.new))
+        × IsHistory keyed names.new bytes read.0
+        × AreAllPassed bytes read.0 read.1) }
     ensures too_much { IsErrOf result RunFault.TooMuch → IsReadTooFar (R.remaining (device_of file.old)) (R.remaining (device_of file.new)) }
     ensures counts { Counts (is_read_failed result) (failures_of file.old) (failures_of file.new) }
     ensures readers { IsErrOf result RunFault.WriteFailed → ⊥ }
@@ -160,10 +162,11 @@ pub(crate) fn read_stream<R: Read>(
             return Err(RunFault::ReadFailed);
         };
         if count == 0 {
-            return finish_history(&follow, events, names);
+            let history = finish_history(&follow, events, names)?;
+            return Ok((history, follow.passed_over()));
         }
         if let Some(refusal) = take_piece(&mut follow, &mut events, &piece[..count], names)? {
-            return Ok(History::Refused(refusal));
+            return Ok((History::Refused(refusal), PassedOver::none()));
         }
     }
     Err(RunFault::TooMuch)
@@ -190,7 +193,7 @@ pub fn with_least(history: History, least: u32) -> History
 }
 
 /// The history in a file, read to its end or to a fault. It is refused where it has fewer events of clients than `least`. The reader keeps in
-/// mind whether it has none.
+/// mind whether it has none, and which of its maps were passed over.
 ///
 /// Errors: `ReadFailed`; want of memory; `TooMuch` where the file has more than 1,099,511,627,776 bytes.
 pub fn read_history<R: Read>(
@@ -207,13 +210,13 @@ pub fn read_history<R: Read>(
         × (length bytes ≤ 2 ^ 40)
         × EndsFor history (R.remaining (device_of file.new))
         × IsHistoryFor least keyed names.new bytes history
-        × IsNoted keyed names.new bytes (is_empty_of file.new)) }
+        × IsNoted keyed names.new bytes (is_empty_of file.new) (passed_of file.new)) }
     ensures too_much { IsErrOf result RunFault.TooMuch → IsReadTooFar (R.remaining (device_of file.old)) (R.remaining (device_of file.new)) }
     ensures counts { Counts (is_read_failed result) (failures_of file.old) (failures_of file.new) }
     ensures readers { IsErrOf result RunFault.WriteFailed → ⊥ }
 {
-    let history = read_stream(alloc, keyed, file, names)?;
-    file.has_given(&history);
+    let (history, passed) = read_stream(alloc, keyed, file, names)?;
+    file.has_given(&history, passed);
     Ok(with_least(history, least))
 }
 

@@ -19,6 +19,7 @@ mod writing;
 pub use counted::Counted;
 pub use inputs::{History, finish_history, read_history, take_piece, with_least};
 pub use lin_events::OutOfMemory;
+pub use lin_history::PassedOver;
 pub use lin_texts::{
     OrderFault, Place, RunFault, Settings, Status, Word, cause_words, end_of_part, item_in,
     kind_named, kind_word, kind_words, kind_words_are_read, next_word, number, put_item, put_list,

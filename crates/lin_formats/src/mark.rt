@@ -17,7 +17,7 @@ use lin_edn::{
     places as places_lie_within, readings_are_unique, tag_until, white_until,
 };
 use lin_events::OutOfMemory;
-use lin_history::{Event, EventFault, NextEvent, event_of, next_event};
+use lin_history::{Event, EventFault, Means, NextEvent, event_of, next_event_by};
 use lin_names::Names;
 use lin_texts::Place;
 use std::alloc::Global;
@@ -239,13 +239,13 @@ fn map_begins(text: &[u8]) -> Option<usize>
 }
 
 /// The map in front of a text, if one is whole there behind white alone. A usual one is read without building its elements.
-fn next_map(alloc: Global, keyed: bool, text: &[u8], names: &mut Names) -> Option<Map>
+fn next_map(means: &mut Means, keyed: bool, text: &[u8], names: &mut Names) -> Option<Map>
     ensures begun { Begins names.old names.new }
     ensures map { IfSome result (λ map. (v : Value) × Spells text.now v map.at map.used × (row_of v ≡ None) ×
         ((m : Reading) → IsReading keyed names.new m → IsAnswer (event m v) map.said)) }
 {
     let at = map_begins(text)?;
-    match next_event(alloc, text, keyed, names) {
+    match next_event_by(means, text, keyed, names) {
         Ok(NextEvent::Complete { said, used }) => Some(Map { at, used, said }),
         _ => None,
     }
@@ -278,6 +278,7 @@ fn read_map(
 /// Reads what stands in front of a text, which has a place in a longer one.
 fn read_front(
     alloc: Global,
+    means: &mut Means,
     keyed: bool,
     text: &[u8],
     place: Place,
@@ -290,7 +291,7 @@ fn read_front(
     ensures passed { IfOk result (IsPassed text.now) }
     ensures front { IfOk result (λ front. (m : Reading) → IsReading keyed names.new m → IsFront m text.now place places.old.items places.new.items front) }
 {
-    match next_map(alloc, keyed, text, names) {
+    match next_map(means, keyed, text, names) {
         Some(map) => read_map(text, place, map, places),
         None => read_element(alloc, keyed, text, place, places, names),
     }
@@ -346,6 +347,7 @@ fn ends(next: Cursor, stop: Stop) -> Front
 /// Reads a text, which has a place in a longer one, as far as it goes.
 pub(crate) fn read_on(
     alloc: Global,
+    means: &mut Means,
     keyed: bool,
     text: &[u8],
     place: Place,
@@ -362,7 +364,7 @@ pub(crate) fn read_on(
     let mut at = 0;
     let mut place = place;
     'elements: loop {
-        match read_front(alloc, keyed, &text[at..], place, places, names)? {
+        match read_front(alloc, means, keyed, &text[at..], place, places, names)? {
             Front::Element(next) => {
                 at += next.at;
                 place = next.place;

@@ -4,6 +4,7 @@ ghost use Rattle.lin_formats.specs.Places.{newlines as count_newlines, place_at}
 ghost use Rattle.lin_formats.specs.inner.Marks.{Fits};
 
 use lin_texts::Place;
+use memchr::memchr_iter;
 
 /// Where a text stops that is read as far as it goes.
 #[derive(Clone, Copy, Debug, PartialEq, Eq)]
@@ -30,7 +31,7 @@ fn newlines(bytes: &[u8]) -> u64
     ensures count { result ≡ count_newlines bytes.now }
     ensures within { result ≤ length bytes.now }
 {
-    bytes.iter().filter(|byte| **byte == b'\n').count() as u64
+    memchr_iter(b'\n', bytes).count() as u64
 }
 
 /// A later place of a text.

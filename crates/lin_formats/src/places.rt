@@ -10,7 +10,7 @@ use crate::mark::{Read, read_on};
 use crate::place::{Cursor, Stop};
 use lin_edn::{Skim, more_bytes, places as places_lie_within};
 use lin_events::OutOfMemory;
-use lin_history::faults_stay;
+use lin_history::{Means, faults_stay};
 use lin_names::Names;
 use lin_texts::Place;
 use std::alloc::Global;
@@ -39,6 +39,7 @@ pub struct Places {
 struct Rest {
     // Where memory comes from.
     alloc: Global,
+    means: Means,
     skim: Skim,
     // Whether the skim has seen just the bytes that are held.
     is_seen: bool,
@@ -73,6 +74,7 @@ impl Places {
             held: Vec::new(alloc),
             rest: Rest {
                 alloc,
+                means: Means::new(alloc),
                 skim: Skim::new(),
                 is_seen: true,
             },
@@ -192,7 +194,15 @@ fn take_in(
         let next = Cursor { at: 0, place: next };
         return Ok(Read { next, stop });
     }
-    match read_on(rest.alloc, keyed, held.as_slice(), next, places, names) {
+    match read_on(
+        rest.alloc,
+        &mut rest.means,
+        keyed,
+        held.as_slice(),
+        next,
+        places,
+        names,
+    ) {
         Ok(read) => {
             drop_front(rest.alloc, held, read.next.at);
             look_at(rest, held.as_slice());

@@ -1,8 +1,8 @@
 //! Histories read from a file with the places of their events.
 ghost use Rattle.std.specs.Prelude.{◌≡◌, ◌^◌, ◌<◌, ◌≤◌, ℕ, List, IfOk, IsErrOf, length};
 ghost use Rattle.std.specs.Io.KnownBytes.{Consumes};
-ghost use Rattle.lin_formats.specs.Devices.{Counts, device_of, failures_of, is_empty_of};
-ghost use Rattle.lin_formats.specs.Histories.{EndsFor, IsHistory, IsHistoryFor, IsNoted, is_read_failed};
+ghost use Rattle.lin_formats.specs.Devices.{Counts, device_of, failures_of, is_empty_of, passed_of};
+ghost use Rattle.lin_formats.specs.Histories.{AreAllPassed, EndsFor, IsHistory, IsHistoryFor, IsNoted, is_read_failed};
 ghost use Rattle.lin_formats.specs.Verdicts.{IsReadTooFar};
 ghost use Rattle.lin_history.specs.Reading.{IsReading, Reading};
 ghost use Rattle.lin_history.specs.Stream.{StreamsAreUnique};
@@ -14,7 +14,7 @@ use crate::counted::Counted;
 use crate::hints::{hints_of, keep_first};
 use crate::inputs::{History, finish_history, take_piece, with_least};
 use crate::places::Places;
-use lin_history::{Follow, streams_are_unique};
+use lin_history::{Follow, PassedOver, streams_are_unique};
 use lin_names::{Names, names_grow};
 use lin_texts::RunFault;
 use std::alloc::Global;
@@ -31,13 +31,13 @@ pub struct EventPlaces {
     pub hints: Vec<u8>,
 }
 
-/// The history in a file, however many events it has, where they stand, and the first bytes of the file.
+/// The history in a file, however many events it has, where they stand, the first bytes of the file, and the maps that are passed over.
 fn read_any<R: Read>(
     alloc: Global,
     keyed: bool,
     file: &mut Counted<R>,
     names: &mut Names,
-) -> Result<(History, Places, Vec<u8>), RunFault>
+) -> Result<(History, Places, Vec<u8>, PassedOver), RunFault>
     requires { failures_of file.old < u64.MAX }
     ensures begun { Begins names.old names.new }
     ensures read { IfOk result (λ found. (bytes : List ℕ)
@@ -48,7 +48,8 @@ fn read_any<R: Read>(
         × ((m : Reading) → IsReading keyed names.new m → Marks m found.1 bytes)
         × (found.1.keyed ≡ keyed)
         × IsHeld found.1 bytes
-        × (found.2.items ≡ beginning bytes)) }
+        × (found.2.items ≡ beginning bytes)
+        × AreAllPassed bytes found.0 found.3) }
     ensures too_much { IsErrOf result RunFault.TooMuch → IsReadTooFar (R.remaining (device_of file.old)) (R.remaining (device_of file.new)) }
     ensures counts { Counts (is_read_failed result) (failures_of file.old) (failures_of file.new) }
     ensures readers { IsErrOf result RunFault.WriteFailed → ⊥ }
@@ -64,14 +65,14 @@ fn read_any<R: Read>(
         };
         if count == 0 {
             let history = finish_history(&follow, events, names)?;
-            return Ok((history, places, first));
+            return Ok((history, places, first, follow.passed_over()));
         }
         let refusal = take_piece(&mut follow, &mut events, &piece[..count], names)?;
         places.feed(&piece[..count], names)?;
         keep_first(&mut first, &piece[..count])?;
         some_numbering(names);
         if let Some(refusal) = refusal {
-            return Ok((History::Refused(refusal), places, first));
+            return Ok((History::Refused(refusal), places, first, PassedOver::none()));
         }
     }
     Err(RunFault::TooMuch)
@@ -97,13 +98,13 @@ pub fn read_placed<R: Read>(
         × ((m : Reading) → IsReading keyed names.new m → Marks m found.1.places bytes)
         × (found.1.places.keyed ≡ keyed)
         × IsHinted keyed bytes found.1.places found.0 found.1.hints.items
-        × IsNoted keyed names.new bytes (is_empty_of file.new)) }
+        × IsNoted keyed names.new bytes (is_empty_of file.new) (passed_of file.new)) }
     ensures too_much { IsErrOf result RunFault.TooMuch → IsReadTooFar (R.remaining (device_of file.old)) (R.remaining (device_of file.new)) }
     ensures counts { Counts (is_read_failed result) (failures_of file.old) (failures_of file.new) }
     ensures readers { IsErrOf result RunFault.WriteFailed → ⊥ }
 {
-    let (history, places, first) = read_any(alloc, keyed, file, names)?;
-    file.has_given(&history);
+    let (history, places, first, passed) = read_any(alloc, keyed, file, names)?;
+    file.has_given(&history, passed);
     let history = with_least(history, least);
     let hints = hints_of(alloc, keyed, &history, &places, first.as_slice())?;
     Ok((history, EventPlaces { places, hints }))

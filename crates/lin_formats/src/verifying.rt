@@ -66,7 +66,8 @@ fn find_verdict<R: Read>(
     ensures counts { Counts (is_read_failed result) (failures_of file.old) (failures_of file.new) }
     ensures readers { IsErrOf result RunFault.WriteFailed → ⊥ }
 {
-    match read_stream(alloc, settings.keyed, file, names)? {
+    let (history, _) = read_stream(alloc, settings.keyed, file, names)?;
+    match history {
         History::Whole(events) => {
             Ok(judge(alloc, settings.kind, events.as_slice(), order, names)?)
         }

@@ -8,21 +8,27 @@ use Rattle.lin_edn.specs.declared.EdnCause.TheVariants as edn
 use Rattle.lin_history.specs.Reading.{Reading}
 use Rattle.lin_history.specs.Stream.{Told, before, told, told_by, Gives, nothing, blanks, blank, unfinished, no_element, no_event}
 use Rattle.lin_history.specs.Table.{event, IsAnswer}
+use Rattle.lin_history.specs.PassedMaps.{PassesOver, nothing as passes_nothing, blanks as passes_blanks}
+use Rattle.lin_history.specs.inner.Passing.{Gathered}
 use Rattle.lin_history.specs.inner.Reads.{IsReadTo, IsTold}
 use Rattle.lin_events.specs.declared.events.Event.{Event}
 use Rattle.lin_history.specs.declared.table.EventFault.{EventFault}
 use Rattle.lin_history.specs.declared.table.EventFault.TheVariants as cause
 use Rattle.lin_history.specs.declared.follow.FollowFault.TheVariants as fault
+use Rattle.lin_history.proofs.Counting.{over_nothing}
 
 -- blanks in front
 front : {k : Reading} {s t : List ℕ} (n : ℕ) → ShortBlanks s n t → Gives k s [] n
 front {k} {s} n b = subst (λ m. Gives k s [] m) (zero-add n) (blanks nothing b)
 
+front_passes : {s t : List ℕ} (n : ℕ) → ShortBlanks s n t → PassesOver s [] n
+front_passes {s} n b = subst (λ m. PassesOver s [] m) (zero-add n) (passes_blanks passes_nothing b)
+
 place_is : (p at : ℕ) → p + at ≡ p + (0 + at)
 place_is p at = omega arith
 
-pub ends_in_fault : (k : Reading) (s : List ℕ) (p : ℕ) (old new : List Event) (v : Value) (at used : ℕ) (cause : EventFault) →
-    Spells s v at used → used ≤ length s → (told k v).ends ≡ Some cause → new ≡ old ++ (told k v).events →
+pub ends_in_fault : (k : Reading) (s : List ℕ) (p : ℕ) (old new : Gathered) (v : Value) (at used : ℕ) (cause : EventFault) →
+    Spells s v at used → used ≤ length s → (told k v).ends ≡ Some cause → new.items ≡ old.items ++ (told k v).events →
     IsReadTo k s p old new (record { used = used; outcome = Err (fault.Event (p + at) cause) })
 ends_in_fault k s p old new v at used cause spelled inside ends put = record {
   events = (told k v).events;
@@ -32,42 +38,46 @@ ends_in_fault k s p old new v at used cause spelled inside ends put = record {
   is_stream = no_event nothing spelled (ap (λ e. record { events = (told k v).events; ends = e }) ends);
   told = ap (λ n. Err (fault.Event n cause)) (place_is p at);
   goes_on = λ h. cc;
+  over = λ h. cc;
 }
 
-pub ends_unfinished : (k : Reading) (s t : List ℕ) (p : ℕ) (old : List Event) (at : ℕ) → IsUnfinished s at → ShortBlanks s at t →
+pub ends_unfinished : (k : Reading) (s t : List ℕ) (p : ℕ) (old : Gathered) (at : ℕ) → IsUnfinished s at → ShortBlanks s at t →
     IsReadTo k s p old old (record { used = at; outcome = Err (fault.Truncated (p + at)) })
 ends_unfinished k s t p old at u b = record {
   events = [];
   outcome = Err (fault.Truncated (0 + at));
-  put = sym (append-nil old);
+  put = sym (append-nil old.items);
   inside = (let h = u.0 in omega arith);
   is_stream = unfinished at nothing u;
   told = ap (λ n. Err (fault.Truncated n)) (place_is p at);
   goes_on = λ h. front at b;
+  over = λ h. over_nothing s (Err (fault.Truncated (0 + at))) old.passed at (front_passes at b) (λ ok. cc);
 }
 
-pub ends_blank : (k : Reading) (s t : List ℕ) (p : ℕ) (old : List Event) (used : ℕ) → used ≤ length s → IsBlankText s used → ShortBlanks s used t →
+pub ends_blank : (k : Reading) (s t : List ℕ) (p : ℕ) (old : Gathered) (used : ℕ) → used ≤ length s → IsBlankText s used → ShortBlanks s used t →
     IsReadTo k s p old old (record { used = used; outcome = Ok tt })
 ends_blank k s t p old used inside u b = record {
   events = [];
   outcome = Ok tt;
-  put = sym (append-nil old);
+  put = sym (append-nil old.items);
   inside = inside;
   is_stream = blank nothing u;
   told = refl;
   goes_on = λ h. front used b;
+  over = λ h. over_nothing s (Ok tt) old.passed used (front_passes used b) (λ ok. (0, used, passes_nothing, u));
 }
 
-pub ends_refused : (k : Reading) (s : List ℕ) (p : ℕ) (old : List Event) (at : ℕ) (cause : EdnCause) → Refuses s at cause → cause ≢ edn.OutOfMemory →
+pub ends_refused : (k : Reading) (s : List ℕ) (p : ℕ) (old : Gathered) (at : ℕ) (cause : EdnCause) → Refuses s at cause → cause ≢ edn.OutOfMemory →
     IsReadTo k s p old old (record { used = 0; outcome = Err (fault.Edn (p + at) cause) })
 ends_refused k s p old at cause r c = record {
   events = [];
   outcome = Err (fault.Edn (0 + at) cause);
-  put = sym (append-nil old);
+  put = sym (append-nil old.items);
   inside = omega arith;
   is_stream = no_element at cause nothing r c;
   told = ap (λ n. Err (fault.Edn n cause)) (place_is p at);
   goes_on = λ h. cc;
+  over = λ h. cc;
 }
 
 abbrev none_behind : Told

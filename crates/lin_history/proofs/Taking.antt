@@ -1,5 +1,5 @@
 -- Usual maps in streams, and in lists and vectors.
-use Rattle.std.proofs.Common.{◌≡◌, ℕ, suc, ◌+◌, ◌<◌, ◌≤◌, Bool, false, inl, inr, List, [], ◌∷◌, ◌++◌, Option, Some, None, Result, Ok, Err, OnOk, length, drop, refl, sym, ap, subst, ◌∙◌, arith}
+use Rattle.std.proofs.Common.{◌≡◌, ℕ, suc, ◌+◌, ◌<◌, ◌≤◌, Bool, false, inl, inr, List, [], ◌∷◌, ◌++◌, Option, Some, None, Result, Ok, Err, OnOk, length, drop, refl, sym, ap, subst, ◌∙◌, arith, append-nil}
 use Rattle.std.specs.Option.{is_some}
 use Rattle.std.proofs.lemmas.Bool.{cases_lt}
 use Rattle.lin_edn.specs.Grammar.{Element, tagged_element, Row, empty, element, longest, IsTagAt, no_blank, Spells, spells, no_blank_yet}
@@ -7,6 +7,8 @@ use Rattle.lin_edn.specs.Rows.{IsRow, row_end, row_levels}
 use Rattle.lin_edn.specs.Value.{Value, map, tagged, Entries, values_of}
 use Rattle.lin_edn.specs.declared.series.Series.{Series}
 use Rattle.lin_history.specs.Reading.{Reading, IsReading}
+use Rattle.lin_history.specs.PassedMaps.{keyword_of, keywords_in, keywords_of}
+use Rattle.lin_history.specs.inner.Passing.{Gathered, passed_more}
 use Rattle.lin_history.specs.inner.Reads.{IsTold, IsToldOn, IsElement}
 use Rattle.lin_history.specs.Stream.{Told, before, told_by, maps_in}
 use Rattle.lin_history.specs.Table.{event, event_in, bare}
@@ -78,15 +80,19 @@ spelled_so keyed names s taken t =
     let b = t.reached in
     spells (t.short no_blank_yet) t.element (omega arith)
 
-pub in_front : (k : Reading) (keyed : Bool) (names : List (List ℕ)) (s : List ℕ) (taken : Taken) (old new : List Event) → IsReading keyed names k →
-    IsTaken keyed names s 0 64 taken → new ≡ old ++ events_of taken.event → IsElement k s old new taken.used
-in_front k keyed names s taken old new is t put =
+none_in : (keyed : Bool) (names : List (List ℕ)) (s : List ℕ) (taken : Taken) (t : IsTaken keyed names s 0 64 taken) → keywords_in t.value ≡ []
+none_in keyed names s taken t = ap (λ v. keywords_of (maps_in v)) t.is_map ∙ append-nil (keyword_of (map t.entries)) ∙ t.over
+
+pub in_front : (k : Reading) (keyed : Bool) (names : List (List ℕ)) (s : List ℕ) (taken : Taken) (old new : Gathered) → IsReading keyed names k →
+    IsTaken keyed names s 0 64 taken → new.items ≡ old.items ++ events_of taken.event → new.passed ≡ old.passed → IsElement k s old new taken.used
+in_front k keyed names s taken old new is t put same =
     let a = t.some in
     record {
       events = events_of taken.event;
       value = t.value;
       at = t.at;
       put = put;
+      over = same ∙ ap (passed_more old.passed) (sym (none_in keyed names s taken t));
       some = omega arith;
       inside = t.inside;
       spelled = spelled_so keyed names s taken t;

@@ -1,5 +1,5 @@
 -- Usual maps: the events that they say.
-use Rattle.std.proofs.Common.{◌≡◌, ℕ, ℤ, pos, ◌<◌, ◌≤◌, Bool, true, false, if◌then◌else◌, List, [], ◌∷◌, Option, Some, None, Ok, drop, option_map, option_and_then, codes, refl, sym, ap, subst, ◌∙◌, arith}
+use Rattle.std.proofs.Common.{◌≡◌, ℕ, ℤ, pos, ◌<◌, ◌≤◌, Bool, true, false, if◌then◌else◌, List, [], ◌∷◌, Option, Some, None, Ok, drop, option_map, option_and_then, codes, refl, sym, ap, subst, ◌∙◌, arith, true≢false}
 use Rattle.std.proofs.lemmas.Option.{none-some}
 use Rattle.std.specs.List.{list_any, slice_range}
 use Rattle.lin_bytes.specs.Bytes.{is_newline}
@@ -9,8 +9,9 @@ use Rattle.lin_edn.specs.Run.{run_value}
 use Rattle.lin_edn.specs.Value.{Value, nil, bool, int, atom, keyword, text, list, vector, set, map, tagged, values_of, Entries}
 use Rattle.lin_names.specs.Spelled as said
 use Rattle.lin_names.specs.Spelled.{Spelled, numbered}
+use Rattle.lin_history.specs.PassedMaps.{keyword_of, other_keyword}
 use Rattle.lin_history.specs.Reading.{Reading}
-use Rattle.lin_history.specs.Table.{bare, under, cas_of, body_of, is_several, is_by_keyword, or_nil, event, event_under, event_with, said_of, item_of, val_of, pair_of, seen, parts_said, process_of, type_of, function_of}
+use Rattle.lin_history.specs.Table.{bare, under, cas_of, body_of, is_several, is_by_keyword, is_word, or_nil, event, event_under, event_with, said_of, item_of, val_of, pair_of, seen, parts_said, process_of, type_of, function_of}
 use Rattle.lin_history.specs.inner.Usual.{IsPair, IsPlaced, ArePlaced, AreParts, TellSame, TellsWith}
 use Rattle.lin_history.specs.inner.Fields.{plain_of, item_value, value_of}
 use Rattle.lin_history.specs.inner.Small.{number_said, number_value, small_body}
@@ -180,11 +181,55 @@ named_under : (m : Reading) (v : Value) (ts fs vs : List Value) → is_by_keywor
     event_under m (v ∷ []) ts fs vs ≡ Ok None
 named_under m v ts fs vs h a b c = rw (a, b, c, h) refl
 
+-- a word is a keyword
+keyword_names : (w : List ℕ) (v : Value) → is_word w v ≡ true → is_by_keyword (v ∷ []) ≡ true
+keyword_names w nil h = absurd (true≢false (sym h))
+keyword_names w (bool b) h = absurd (true≢false (sym h))
+keyword_names w (int i) h = absurd (true≢false (sym h))
+keyword_names w (atom at u) h = absurd (true≢false (sym h))
+keyword_names w (keyword at u) h = refl
+keyword_names w (text at u) h = absurd (true≢false (sym h))
+keyword_names w (list vs) h = absurd (true≢false (sym h))
+keyword_names w (vector vs) h = absurd (true≢false (sym h))
+keyword_names w (set vs) h = absurd (true≢false (sym h))
+keyword_names w (map es) h = absurd (true≢false (sym h))
+keyword_names w (tagged at u v) h = absurd (true≢false (sym h))
+
+-- neither the nemesis nor a number is passed over for another keyword
+pub nemesis_other : (v : Value) → is_word (codes ":nemesis") v ≡ true → other_keyword v ≡ []
+nemesis_other nil h = refl
+nemesis_other (bool b) h = refl
+nemesis_other (int i) h = refl
+nemesis_other (atom at u) h = refl
+nemesis_other (keyword at u) h = ap (λ b. if b then [] else u ∷ []) h
+nemesis_other (text at u) h = refl
+nemesis_other (list vs) h = refl
+nemesis_other (vector vs) h = refl
+nemesis_other (set vs) h = refl
+nemesis_other (map es) h = refl
+nemesis_other (tagged at u v) h = refl
+
+pub number_other : (v : Value) (n : ℕ) → process_of v ≡ Some n → other_keyword v ≡ []
+number_other nil n h = refl
+number_other (bool b) n h = refl
+number_other (int i) n h = refl
+number_other (atom at u) n h = refl
+number_other (keyword at u) n h = absurd (cc)
+number_other (text at u) n h = refl
+number_other (list vs) n h = refl
+number_other (vector vs) n h = refl
+number_other (set vs) n h = refl
+number_other (map es) n h = refl
+number_other (tagged at u v) n h = refl
+
+pub none_over : (es : Entries) (v : Value) → under (codes ":process") es ≡ v ∷ [] → other_keyword v ≡ [] → keyword_of (map es) ≡ []
+none_over es v first none = ap (λ vs. other_keyword (or_nil vs)) first ∙ none
+
 -- a usual map of the nemesis
-pub usual_named : (m : Reading) (s : List ℕ) (levels : ℕ) (es : Entries) (ps : ValueExtents) (v : Value) → ArePlaced s levels es ps →
-    under (codes ":process") es ≡ v ∷ [] → is_by_keyword (v ∷ []) ≡ true → event m (map es) ≡ Ok None
-usual_named m s levels es ps v are first named =
-    rw first (named_under m v (under (codes ":type") es) (under (codes ":f") es) (under (codes ":value") es) named
+pub usual_nemesis : (m : Reading) (s : List ℕ) (levels : ℕ) (es : Entries) (ps : ValueExtents) (v : Value) → ArePlaced s levels es ps →
+    under (codes ":process") es ≡ v ∷ [] → is_word (codes ":nemesis") v ≡ true → event m (map es) ≡ Ok None
+usual_nemesis m s levels es ps v are first named =
+    rw first (named_under m v (under (codes ":type") es) (under (codes ":f") es) (under (codes ":value") es) (keyword_names (codes ":nemesis") v named)
     (few s levels (under (codes ":type") es) ps.event_type are.types) (few s levels (under (codes ":f") es) ps.function are.function)
     (few s levels (under (codes ":value") es) ps.value are.values))
 

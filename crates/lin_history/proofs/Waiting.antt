@@ -9,6 +9,8 @@ use Rattle.lin_edn.specs.Rows.{IsBehind, row_begun, value_in}
 use Rattle.lin_history.specs.Reading.{Reading}
 use Rattle.lin_history.specs.Table.{event}
 use Rattle.lin_history.specs.Stream.{Told, before, told, told_by, Gives, nothing, element}
+use Rattle.lin_history.specs.PassedMaps.{PassesOver, nothing as passes_nothing, element as passes_element, keywords_in}
+use Rattle.lin_history.specs.inner.Passing.{Gathered, added}
 use Rattle.lin_history.specs.inner.Reads.{IsElement, IsReadTo, IsTold, IsToldOn}
 use Rattle.lin_history.specs.inner.Rests.{IsWhole}
 use Rattle.lin_events.specs.declared.events.Event.{Event}
@@ -20,6 +22,7 @@ use Rattle.lin_history.specs.declared.table.EventFault.TheVariants as cause
 use Rattle.lin_history.proofs.Fronts.{ends_in_fault, told_fault}
 use Rattle.lin_history.proofs.Reading.{IsReadUp, put_again, the_end}
 use Rattle.lin_history.proofs.Telling.{behind_told}
+use Rattle.lin_history.proofs.Counting.{added_counted}
 
 -- events and their end, and what is told behind them if there is none
 abbrev pub then_told : List Event → Option EventFault → Told → Told
@@ -98,13 +101,14 @@ row_told k false true vs v h = ap (told k) h
 row_told k false false vs v h = ap (told k) h
 
 -- what waited is ready, as what stands in front of a text
-pub row_without_fault : (k : Reading) (s : List ℕ) (old new : List Event) (row : Row) (used : ℕ) → (w : IsWhole k row s used) → row_begun row.series < used → used ≤ length s →
-    row.ends ≡ None → new ≡ old ++ row.waiting.items → IsElement k s old new used
-row_without_fault k s old new row used w some inside is put = record {
+pub row_without_fault : (k : Reading) (s : List ℕ) (old new : Gathered) (row : Row) (used : ℕ) → (w : IsWhole k row s used) → row_begun row.series < used → used ≤ length s →
+    row.ends ≡ None → new.items ≡ old.items ++ row.waiting.items → new.passed ≡ added old.passed row.passed → IsElement k s old new used
+row_without_fault k s old new row used w some inside is put over = record {
   events = row.waiting.items;
   value = w.0;
   at = row_begun row.series;
   put = put;
+  over = over ∙ ap (added old.passed) w.3 ∙ added_counted old.passed (keywords_in w.0);
   some = omega arith;
   inside = inside;
   spelled = w.1;
@@ -112,10 +116,10 @@ row_without_fault k s old new row used w some inside is put = record {
 }
 
 -- and the fault behind it is the element's
-pub row_with_fault : (k : Reading) (s : List ℕ) (p : ℕ) (old new : List Event) (row : Row) (used : ℕ) (f : EventFault) → (w : IsWhole k row s used) → used ≤ length s →
-    row.ends ≡ Some f → new ≡ old ++ row.waiting.items → IsReadTo k s p old new (record { used = used; outcome = Err (fault.Event (p + row_begun row.series) f) })
+pub row_with_fault : (k : Reading) (s : List ℕ) (p : ℕ) (old new : Gathered) (row : Row) (used : ℕ) (f : EventFault) → (w : IsWhole k row s used) → used ≤ length s →
+    row.ends ≡ Some f → new.items ≡ old.items ++ row.waiting.items → IsReadTo k s p old new (record { used = used; outcome = Err (fault.Event (p + row_begun row.series) f) })
 row_with_fault k s p old new row used f w inside is put =
-    ends_in_fault k s p old new w.0 (row_begun row.series) used f w.1 inside (ap (λ (t : Told). t.ends) w.2 ∙ is) (put ∙ ap (λ (t : Told). old ++ t.events) (sym w.2))
+    ends_in_fault k s p old new w.0 (row_begun row.series) used f w.1 inside (ap (λ (t : Told). t.ends) w.2 ∙ is) (put ∙ ap (λ (t : Told). old.items ++ t.events) (sym w.2))
 
 -- one map of several
 pub told_step : (k : Reading) (es : List Edn) (n : ℕ) (d : Edn) → n < length es → d ≡ get_or es n d →
@@ -161,11 +165,12 @@ told_through all one t es more mid new is put h =
     ∙ ap (λ es'. record { events = es'; ends = t.ends }) (sym (append_assoc es more t.events))
 
 -- the text is read on behind the element
-pub reads_on : (k : Reading) (s : List ℕ) (p : ℕ) (old mid new : List Event) (used : ℕ) (r : Read) → IsElement k s old mid used →
+pub reads_on : (k : Reading) (s : List ℕ) (p : ℕ) (old mid new : Gathered) (used : ℕ) (r : Read) → IsElement k s old mid used →
     IsReadTo k (drop used s) (p + used) mid new r → IsReadTo k s p old new (record { used = used + r.used; outcome = r.outcome })
 reads_on k s p old mid new used r e rest =
     let up : IsReadUp k s used old mid = record {
       inside = e.inside;
       read = (e.events, e.put, subst (λ n. Gives k s e.events n) (zero-add used) (element {es = []} nothing e.spelled e.told));
+      over = (keywords_in e.value, subst (λ n. PassesOver s (keywords_in e.value) n) (zero-add used) (passes_element {ws = []} passes_nothing e.spelled), e.over);
     } in
     the_end k s p used old mid new r up rest

@@ -4,4 +4,6 @@ pub mod Stream
 pub mod Next
 pub mod Sees
 pub mod Rests
+pub mod Counts
+pub mod PassedMaps
 pub mod inner

@@ -4,6 +4,7 @@ use Rattle.std.specs.Prelude.{◌≡◌, ℕ, true, List, Option, Some, None}
 use Rattle.lin_edn.specs.Rows.{IsRow}
 use Rattle.lin_edn.specs.Skimming.{HasSeen}
 use Rattle.lin_edn.specs.Value.{Value, values_of}
+use Rattle.lin_history.specs.PassedMaps.{counted, keywords_of}
 use Rattle.lin_history.specs.Reading.{Reading}
 use Rattle.lin_history.specs.Stream.{Told, told_by}
 use Rattle.lin_history.specs.declared.follow.Rest.{Rest}
@@ -17,9 +18,9 @@ told_of row = record { events = row.waiting.items; ends = row.ends }
 abbrev pub IsOpenRow : Row → List ℕ → Type 0
 IsOpenRow row text = (vs : List Value) × IsRow row.series text vs
 
--- and what its maps tell, as far as they are read, waits
+-- and what its maps tell, as far as they are read, waits; those that are passed over are counted
 abbrev pub IsOpen : Reading → Row → List ℕ → Type 0
-IsOpen m row text = (vs : List Value) × IsRow row.series text vs × (told_by m (values_of vs) ≡ told_of row)
+IsOpen m row text = (vs : List Value) × IsRow row.series text vs × (told_by m (values_of vs) ≡ told_of row) × (row.passed ≡ counted (keywords_of (values_of vs)))
 
 abbrev pub IsWaiting : Reading → Option Row → List ℕ → Type 0
 IsWaiting m None text = Unit {0}

@@ -3,17 +3,20 @@ use Rattle.std.specs.Prelude.{◌≡◌, ℕ, ◌+◌, ◌<◌, ◌≤◌, Bool,
 use Rattle.lin_names.specs.Names.{AgreesWith}
 use Rattle.lin_history.specs.Reading.{Reading}
 use Rattle.lin_history.specs.Stream.{Gives, IsStream}
+use Rattle.lin_history.specs.Counts.{Passed}
+use Rattle.lin_history.specs.PassedMaps.{ArePassedOver, PassesOver, counted}
 use Rattle.lin_history.specs.Rests.{IsWaiting}
 use Rattle.lin_events.specs.declared.events.Event.{Event}
 use Rattle.lin_history.specs.declared.row.Row.{Row}
 use Rattle.lin_history.specs.declared.follow.FollowFault.{FollowFault}
 use Rattle.lin_history.specs.declared.follow.FollowFault.TheVariants as fault
 
--- What a follower shows: whether values are pairs with keys, the events that are ready, how the stream ends so far,
--- how many bytes are done with, those behind them, and the list or vector that these begin with, as far as it is read.
+-- What a follower shows: whether values are pairs with keys, the events that are ready, the maps that are passed over, how the stream
+-- ends so far, how many bytes are done with, those behind them, and the list or vector that these begin with, as far as it is read.
 pub record Followed : Type 0 where
   pub keyed : Bool
   pub ready : List Event
+  pub passed_over : Passed
   pub outcome : Result (Unit {0}) FollowFault
   pub passed : ℕ
   pub held : List ℕ
@@ -28,6 +31,10 @@ is_fault (Err (fault.Truncated at)) = false
 is_fault (Err fault.OutOfMemory) = false
 is_fault (Err fault.TooMuch) = false
 
+-- the maps that are passed over are counted up to a place of a stream, and if it is whole so are all
+abbrev pub AreCounted : Followed → List ℕ → Type 0
+AreCounted f stream = (ws : List (List ℕ)) × PassesOver stream ws f.passed × (f.passed_over ≡ counted ws) × (f.outcome ≡ Ok tt → ArePassedOver stream ws)
+
 -- Read so, the bytes fed are this stream, and these events were taken: with those that are ready they are the stream's events, and
 -- it ends as the follower says. Without a fault, what is held is what stands behind the elements that are read.
 pub record Sees (m : Reading) (f : Followed) (stream : List ℕ) (taken : List Event) : Type 0 where
@@ -36,6 +43,7 @@ pub record Sees (m : Reading) (f : Followed) (stream : List ℕ) (taken : List E
   pub is_held : is_fault f.outcome ≡ false →
       Gives m stream (taken ++ f.ready) f.passed × (f.passed ≤ length stream) × (f.held ≡ drop f.passed stream)
   pub waits : IsWaiting m f.row f.held
+  pub over : is_fault f.outcome ≡ false → AreCounted f stream
 
 -- the greatest number of bytes of a stream
 abbrev pub most : ℕ
@@ -57,6 +65,7 @@ pub record IsAsBefore (old new : Followed) : Type 0 where
   pub keyed : new.keyed ≡ old.keyed
   pub ready : new.ready ≡ old.ready
   pub outcome : new.outcome ≡ old.outcome
+  pub passed_over : new.passed_over ≡ old.passed_over
   pub passed : new.passed ≡ old.passed
   pub held : new.held ≡ old.held
   pub sees : (m : Reading) (stream : List ℕ) (taken : List Event) → Sees m old stream taken → Sees m new stream taken

@@ -3,3 +3,4 @@ pub mod Reads
 pub mod Small
 pub mod Usual
 pub mod Rests
+pub mod Passing

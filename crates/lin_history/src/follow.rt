@@ -9,12 +9,14 @@ ghost use Rattle.lin_history.specs.Reading.{Reading, IsReading};
 ghost use Rattle.lin_history.specs.Stream.{maps_in as maps_of, told, told_by, StreamsAreUnique};
 ghost use Rattle.lin_history.specs.Sees.{Sees, Takes, TakesAll, Feeds, StaysFaulty, FaultsStay, most};
 ghost use Rattle.lin_history.specs.inner.Reads.{IsTold, IsPutBehind, IsReadTo, IsFront, IsWithin, IsStanding, IsCut};
+ghost use Rattle.lin_history.specs.PassedMaps.{keywords_in, keywords_of};
+ghost use Rattle.lin_history.specs.inner.Passing.{Gathered, gathered, passed_more};
 ghost use Rattle.lin_history.specs.Rests.{IsOpen, IsOpenRow, IsWaiting, IsSeen, Knows};
 ghost use Rattle.lin_history.specs.inner.Rests.{IsWhole, IsWholeRow, IsUnaware, GoesOn, IsHeld, IsReadHeld};
-ghost use Rattle.lin_events.specs.declared.events.Event.{Event as TheEvent};
 ghost use Rattle.lin_history.specs.declared.follow.FollowFault.{FollowFault as TheFault};
 
 use crate::outlines::Means;
+use crate::passed::PassedOver;
 use crate::row::{
     Far, Row, begin_row, put_all, put_event, put_small, read_maps, tell_one, whole_row,
 };
@@ -56,13 +58,20 @@ pub enum FollowFault {
 #[derive(Drop)]
 pub struct Follow {
     keyed: bool,
-    ready: VecDeque<Event>,
+    ready: Ready,
     outcome: Result<(), FollowFault>,
     // How many bytes of the stream stand before those that are held.
     passed: u64,
     // What stands behind the last whole element, from the first byte on that isn't blank.
     held: Vec<u8>,
     rest: Rest,
+}
+
+/// What is made of the stream so far.
+#[derive(Drop)]
+struct Ready {
+    events: VecDeque<Event>,
+    passed: PassedOver,
 }
 
 /// What is known of the bytes that are held without reading them again.
@@ -83,7 +92,7 @@ impl Model for Follow {
 
     ghost Value = { Followed };
 
-    ghost view = { λ f. record { keyed = f.keyed; ready = f.ready.items; outcome = f.outcome; passed = f.passed; held = f.held.items; row = f.rest.row } };
+    ghost view = { λ f. record { keyed = f.keyed; ready = f.ready.events.items; passed_over = f.ready.passed; outcome = f.outcome; passed = f.passed; held = f.held.items; row = f.rest.row } };
 
     ghost invariant = { λ f. (f.passed + length f.held.items ≤ most) × Knows f.rest f.held.items };
 }
@@ -97,7 +106,10 @@ impl Follow {
     {
         Follow {
             keyed,
-            ready: VecDeque::new(alloc),
+            ready: Ready {
+                events: VecDeque::new(alloc),
+                passed: PassedOver::none(),
+            },
             outcome: Ok(()),
             passed: 0,
             held: Vec::new(alloc),
@@ -114,21 +126,28 @@ impl Follow {
     pub fn ready(&self) -> usize
         ensures { result ≡ length self.now.ready }
     {
-        self.ready.len()
+        self.ready.events.len()
     }
 
     /// The oldest event that is ready.
     pub fn take(&mut self) -> Option<Event>
         ensures { Takes self.old self.new result }
     {
-        self.ready.pop_front()
+        self.ready.events.pop_front()
     }
 
     /// All events that are ready, the oldest first.
     pub fn take_all(&mut self) -> Vec<Event>
         ensures { TakesAll self.old self.new result.items }
     {
-        mem::replace(&mut self.ready, VecDeque::new(self.rest.means.alloc)).into_vec()
+        mem::replace(&mut self.ready.events, VecDeque::new(self.rest.means.alloc)).into_vec()
+    }
+
+    /// The maps that were passed over since a keyword other than `:nemesis` is their process, if no fault of form stands.
+    pub fn passed_over(&self) -> PassedOver
+        ensures { result ≡ self.now.passed_over }
+    {
+        self.ready.passed.copy()
     }
 
     /// Whether the stream may end here: `Truncated` in an unfinished element or discard, else the fault that stands, if any.
@@ -155,7 +174,7 @@ impl Follow {
         if piece.len() as u64 > MOST - self.passed - self.held.len() as u64 {
             return Err(FollowFault::TooMuch);
         }
-        let before = self.ready.len();
+        let before = self.ready.events.len();
         match take_in(
             self.keyed,
             self.passed,
@@ -171,7 +190,7 @@ impl Follow {
                 self.outcome = read.outcome;
                 match standing(&self.outcome) {
                     Some(fault) => Err(fault),
-                    None => Ok(self.ready.len() - before),
+                    None => Ok(self.ready.events.len() - before),
                 }
             }
         }
@@ -203,20 +222,21 @@ fn take_in(
     piece: &[u8],
     held: &mut Vec<u8>,
     rest: &mut Rest,
-    ready: &mut VecDeque<Event>,
+    ready: &mut Ready,
     names: &mut Names,
 ) -> Result<Read, OutOfMemory>
     requires small { passed + length held.old.items + length piece.now ≤ most }
     requires known { Knows rest.old held.old.items }
     ensures begun { Begins names.old names.new }
-    ensures cut { IsCut piece.now held.old.items ready.old.items held.new.items ready.new.items result }
+    ensures cut { IsCut piece.now held.old.items (gathered ready.old) held.new.items (gathered ready.new) result }
     ensures known { Knows rest.new held.new.items }
     ensures read { IfOk result (λ r. (m : Reading) → IsReading keyed names.new m → IsWaiting m rest.old.row held.old.items →
-        IsReadTo m (held.old.items ++ piece.now) passed ready.old.items ready.new.items r × IsWaiting m rest.new.row held.new.items) }
+        IsReadTo m (held.old.items ++ piece.now) passed (gathered ready.old) (gathered ready.new) r × IsWaiting m rest.new.row held.new.items) }
     ensures refused { OnErr result ((m : Reading) → IsWaiting m rest.old.row held.old.items → IsWaiting m rest.new.row held.new.items) }
 {
     let kept = held.len();
-    let before = ready.len();
+    let before = ready.events.len();
+    let passed_before = ready.passed.copy();
     held.extend_from_slice(piece)?;
     match read_held(keyed, passed, piece, held.as_slice(), rest, ready, names) {
         Ok(read) => {
@@ -225,7 +245,8 @@ fn take_in(
         }
         Err(refused) => {
             held.truncate(kept);
-            ready.truncate(before);
+            ready.events.truncate(before);
+            ready.passed = passed_before;
             Err(refused)
         }
     }
@@ -238,16 +259,16 @@ fn read_held(
     piece: &[u8],
     held: &[u8],
     rest: &mut Rest,
-    ready: &mut VecDeque<Event>,
+    ready: &mut Ready,
     names: &mut Names,
 ) -> Result<Read, OutOfMemory>
     requires small { passed + length held.now ≤ most }
     requires known { (text : List ℕ) × (held.now ≡ text ++ piece.now) × Knows rest.old text }
     ensures begun { Begins names.old names.new }
-    ensures put { IsPutBehind ready.old.items ready.new.items }
+    ensures put { IsPutBehind ready.old.events.items ready.new.events.items }
     ensures held { IsHeld held.now rest.new result }
     ensures read { IfOk result (λ r. (m : Reading) → IsReading keyed names.new m → (text : List ℕ) → held.now ≡ text ++ piece.now → IsWaiting m rest.old.row text →
-        IsReadHeld m held.now passed ready.old.items ready.new.items rest.new.row r) }
+        IsReadHeld m held.now passed (gathered ready.old) (gathered ready.new) rest.new.row r) }
 {
     more_bytes();
     match rest.row.take() {
@@ -272,17 +293,17 @@ fn read_in(
     held: &[u8],
     mut row: Row,
     rest: &mut Rest,
-    ready: &mut VecDeque<Event>,
+    ready: &mut Ready,
     names: &mut Names,
 ) -> Result<Read, OutOfMemory>
     requires small { passed + length held.now ≤ most }
     requires open { IsOpenRow row held.now }
     requires row { rest.old.row ≡ None }
     ensures begun { Begins names.old names.new }
-    ensures put { IsPutBehind ready.old.items ready.new.items }
+    ensures put { IsPutBehind ready.old.events.items ready.new.events.items }
     ensures held { IsHeld held.now rest.new result }
     ensures read { IfOk result (λ r. (m : Reading) → IsReading keyed names.new m → IsOpen m row held.now →
-        IsReadHeld m held.now passed ready.old.items ready.new.items rest.new.row r) }
+        IsReadHeld m held.now passed (gathered ready.old) (gathered ready.new) rest.new.row r) }
 {
     rest.is_seen = false;
     match read_maps(&mut rest.means, keyed, held, &mut row, names)? {
@@ -313,15 +334,15 @@ fn read_anew(
     passed: u64,
     held: &[u8],
     rest: &mut Rest,
-    ready: &mut VecDeque<Event>,
+    ready: &mut Ready,
     names: &mut Names,
 ) -> Result<Read, OutOfMemory>
     requires small { passed + length held.now ≤ most }
     requires unaware { IsUnaware rest.old }
     ensures begun { Begins names.old names.new }
-    ensures put { IsPutBehind ready.old.items ready.new.items }
+    ensures put { IsPutBehind ready.old.events.items ready.new.events.items }
     ensures held { IsHeld held.now rest.new result }
-    ensures read { IfOk result (λ r. (m : Reading) → IsReading keyed names.new m → IsReadHeld m held.now passed ready.old.items ready.new.items rest.new.row r) }
+    ensures read { IfOk result (λ r. (m : Reading) → IsReading keyed names.new m → IsReadHeld m held.now passed (gathered ready.old) (gathered ready.new) rest.new.row r) }
 {
     let read = read_on(&mut rest.means, keyed, held, passed, ready, names)?;
     look_at(rest, &held[read.used..]);
@@ -335,16 +356,16 @@ fn close(
     passed: u64,
     held: &[u8],
     whole: Whole,
-    ready: &mut VecDeque<Event>,
+    ready: &mut Ready,
     names: &mut Names,
 ) -> Result<Read, OutOfMemory>
     requires small { passed + length held.now ≤ most }
     requires whole { IsWholeRow whole.row held.now whole.used }
     ensures begun { Begins names.old names.new }
-    ensures put { IsPutBehind ready.old.items ready.new.items }
+    ensures put { IsPutBehind ready.old.events.items ready.new.events.items }
     ensures within { IfOk result (λ r. r.used ≤ length held.now) }
     ensures read { IfOk result (λ r. (m : Reading) → IsReading keyed names.new m → IsWhole m whole.row held.now whole.used →
-        IsReadTo m held.now passed ready.old.items ready.new.items r) }
+        IsReadTo m held.now passed (gathered ready.old) (gathered ready.new) r) }
 {
     places();
     match tell_row(whole.row, whole.used, passed, ready)? {
@@ -403,7 +424,7 @@ fn is_blank(rest: &Rest, held: &[u8]) -> bool
 fn resting(rest: &Rest, held: &[u8], place: u64) -> Read
     requires { GoesOn rest.now held.now true }
     ensures used { result.used ≡ 0 }
-    ensures read { (m : Reading) (ready : List TheEvent) → IsReadTo m held.now place ready ready result }
+    ensures read { (m : Reading) (ready : Gathered) → IsReadTo m held.now place ready ready result }
 {
     if is_blank(rest, held) {
         return Read {
@@ -504,6 +525,26 @@ fn tell(
     }
 }
 
+/// Counts those maps of a top-level element that are passed over.
+fn pass_over(passed: &mut PassedOver, element: &Edn)
+    ensures { passed.new ≡ passed_more passed.old (keywords_in (view element.now)) }
+{
+    let element = bare(element);
+    match maps_in(element) {
+        Some(items) => pass_over_all(passed, items),
+        None => passed.take(element),
+    }
+}
+
+/// Counts those of some maps that are passed over.
+fn pass_over_all(passed: &mut PassedOver, items: &[Edn])
+    ensures { passed.new ≡ passed_more passed.old (keywords_of (values_of (map view items.now))) }
+{
+    for item in items {
+        passed.take(item);
+    }
+}
+
 /// Reads what stands in front of a text, which stands from a place of the stream on.
 #[inline(always)]
 fn read_front(
@@ -511,18 +552,18 @@ fn read_front(
     keyed: bool,
     text: &[u8],
     place: u64,
-    ready: &mut VecDeque<Event>,
+    ready: &mut Ready,
     names: &mut Names,
 ) -> Result<Front, OutOfMemory>
     requires { place + length text.now ≤ most }
     ensures begun { Begins names.old names.new }
-    ensures put { IsPutBehind ready.old.items ready.new.items }
+    ensures put { IsPutBehind ready.old.events.items ready.new.events.items }
     ensures within { IfOk result (IsWithin text.now) }
-    ensures front { IfOk result (λ front. (m : Reading) → IsReading keyed names.new m → IsFront m text.now place ready.old.items ready.new.items front) }
+    ensures front { IfOk result (λ front. (m : Reading) → IsReading keyed names.new m → IsFront m text.now place (gathered ready.old) (gathered ready.new) front) }
 {
     match next_small(means, keyed, text, 0, LEVELS) {
         Some(small) => {
-            put_small(ready, small)?;
+            put_small(&mut ready.events, small)?;
             Ok(Front::Element(small.used))
         }
         None => read_usual(means, keyed, text, place, ready, names),
@@ -536,19 +577,19 @@ fn read_usual(
     keyed: bool,
     text: &[u8],
     place: u64,
-    ready: &mut VecDeque<Event>,
+    ready: &mut Ready,
     names: &mut Names,
 ) -> Result<Front, OutOfMemory>
     requires { place + length text.now ≤ most }
     ensures begun { Begins names.old names.new }
-    ensures put { IsPutBehind ready.old.items ready.new.items }
+    ensures put { IsPutBehind ready.old.events.items ready.new.events.items }
     ensures within { IfOk result (IsWithin text.now) }
-    ensures front { IfOk result (λ front. (m : Reading) → IsReading keyed names.new m → IsFront m text.now place ready.old.items ready.new.items front) }
+    ensures front { IfOk result (λ front. (m : Reading) → IsReading keyed names.new m → IsFront m text.now place (gathered ready.old) (gathered ready.new) front) }
 {
     places();
     match next_usual(means, keyed, text, 0, LEVELS, names) {
         Some(taken) => {
-            put_event(ready, taken.event)?;
+            put_event(&mut ready.events, taken.event)?;
             Ok(Front::Element(taken.used))
         }
         None => read_unusual(means, keyed, text, place, ready, names),
@@ -562,14 +603,14 @@ fn read_unusual(
     keyed: bool,
     text: &[u8],
     place: u64,
-    ready: &mut VecDeque<Event>,
+    ready: &mut Ready,
     names: &mut Names,
 ) -> Result<Front, OutOfMemory>
     requires { place + length text.now ≤ most }
     ensures begun { Begins names.old names.new }
-    ensures put { IsPutBehind ready.old.items ready.new.items }
+    ensures put { IsPutBehind ready.old.events.items ready.new.events.items }
     ensures within { IfOk result (IsWithin text.now) }
-    ensures front { IfOk result (λ front. (m : Reading) → IsReading keyed names.new m → IsFront m text.now place ready.old.items ready.new.items front) }
+    ensures front { IfOk result (λ front. (m : Reading) → IsReading keyed names.new m → IsFront m text.now place (gathered ready.old) (gathered ready.new) front) }
 {
     places();
     match whole_row(means, keyed, text, names)? {
@@ -579,21 +620,19 @@ fn read_unusual(
 }
 
 /// Puts what waits of a list or vector that is whole, in front of a text from a place of the stream on, behind what is ready.
-fn tell_row(
-    row: Row,
-    used: usize,
-    place: u64,
-    ready: &mut VecDeque<Event>,
-) -> Result<Front, OutOfMemory>
+fn tell_row(row: Row, used: usize, place: u64, ready: &mut Ready) -> Result<Front, OutOfMemory>
     requires { place + row_begun row.series ≤ most }
-    ensures put { IsPutBehind ready.old.items ready.new.items }
+    ensures put { IsPutBehind ready.old.events.items ready.new.events.items }
     ensures within { IfOk result (λ front. (text : List ℕ) → IsWholeRow row text used → IsWithin text front) }
-    ensures front { IfOk result (λ front. (m : Reading) (text : List ℕ) → IsWhole m row text used → IsFront m text place ready.old.items ready.new.items front) }
+    ensures front { IfOk result (λ front. (m : Reading) (text : List ℕ) → IsWhole m row text used → IsFront m text place (gathered ready.old) (gathered ready.new) front) }
 {
     places();
-    put_all(ready, row.waiting)?;
+    put_all(&mut ready.events, row.waiting)?;
     match row.ends {
-        None => Ok(Front::Element(used)),
+        None => {
+            ready.passed.add(&row.passed);
+            Ok(Front::Element(used))
+        }
         Some(cause) => Ok(ends(
             used,
             Err(FollowFault::Event {
@@ -611,20 +650,29 @@ fn read_element(
     keyed: bool,
     text: &[u8],
     place: u64,
-    ready: &mut VecDeque<Event>,
+    ready: &mut Ready,
     names: &mut Names,
 ) -> Result<Front, OutOfMemory>
     requires { place + length text.now ≤ most }
     ensures begun { Begins names.old names.new }
-    ensures put { IsPutBehind ready.old.items ready.new.items }
+    ensures put { IsPutBehind ready.old.events.items ready.new.events.items }
     ensures within { IfOk result (IsWithin text.now) }
-    ensures front { IfOk result (λ front. (m : Reading) → IsReading keyed names.new m → IsFront m text.now place ready.old.items ready.new.items front) }
+    ensures front { IfOk result (λ front. (m : Reading) → IsReading keyed names.new m → IsFront m text.now place (gathered ready.old) (gathered ready.new) front) }
 {
     places();
     blanks_in_front();
     match next_element(alloc, text) {
-        Ok(Next::Complete { value, at, used }) => match tell(alloc, keyed, &value, ready, names) {
-            Ok(()) => Ok(Front::Element(used)),
+        Ok(Next::Complete { value, at, used }) => match tell(
+            alloc,
+            keyed,
+            &value,
+            &mut ready.events,
+            names,
+        ) {
+            Ok(()) => {
+                pass_over(&mut ready.passed, &value);
+                Ok(Front::Element(used))
+            }
             Err(fault) => match fault {
                 EventFault::OutOfMemory => Err(OutOfMemory),
                 cause => Ok(ends(
@@ -668,14 +716,14 @@ fn read_on(
     keyed: bool,
     text: &[u8],
     place: u64,
-    ready: &mut VecDeque<Event>,
+    ready: &mut Ready,
     names: &mut Names,
 ) -> Result<Read, OutOfMemory>
     requires { place + length text.now ≤ most }
     ensures begun { Begins names.old names.new }
-    ensures put { IsPutBehind ready.old.items ready.new.items }
+    ensures put { IsPutBehind ready.old.events.items ready.new.events.items }
     ensures within { IfOk result (λ r. r.used ≤ length text.now) }
-    ensures read { IfOk result (λ r. (m : Reading) → IsReading keyed names.new m → IsReadTo m text.now place ready.old.items ready.new.items r) }
+    ensures read { IfOk result (λ r. (m : Reading) → IsReading keyed names.new m → IsReadTo m text.now place (gathered ready.old) (gathered ready.new) r) }
 {
     let mut at = 0;
     'elements: loop {

@@ -4,6 +4,7 @@
 mod follow;
 mod next;
 mod outlines;
+mod passed;
 mod row;
 mod small;
 mod table;
@@ -16,5 +17,7 @@ pub use lin_events::{
     Shape, Val,
 };
 pub use lin_names::Names;
-pub use next::{NextEvent, next_event};
+pub use next::{NextEvent, next_event, next_event_by};
+pub use outlines::Means;
+pub use passed::PassedOver;
 pub use table::{EventFault, event_of};

@@ -3,8 +3,9 @@ ghost use Rattle.lin_names.specs.Names.{Begins};
 ghost use Rattle.lin_history.specs.Next.{SaysEvent};
 
 use crate::outlines::Means;
+use crate::row::next_taken;
 use crate::table::{EventFault, event_of};
-use crate::usual::{LEVELS, next_usual};
+use crate::usual::LEVELS;
 use lin_edn::{EdnFault, Next, next_element};
 use lin_events::Event;
 use lin_names::Names;
@@ -40,15 +41,28 @@ pub fn next_event(
     ensures begun { Begins names.old names.new }
     ensures says { SaysEvent keyed names.new text.now result }
 {
-    if let Some(taken) = next_usual(&mut Means::alone(alloc), keyed, text, 0, LEVELS, names) {
+    next_event_by(&mut Means::alone(alloc), text, keyed, names)
+}
+
+/// The same, by what maps so far were like: a map that is like one of those is found by what stands between its values.
+pub fn next_event_by(
+    means: &mut Means,
+    text: &[u8],
+    keyed: bool,
+    names: &mut Names,
+) -> Result<NextEvent, EdnFault>
+    ensures begun { Begins names.old names.new }
+    ensures says { SaysEvent keyed names.new text.now result }
+{
+    if let Some(taken) = next_taken(means, keyed, text, 0, LEVELS, names) {
         return Ok(NextEvent::Complete {
             said: Ok(taken.event),
             used: taken.used,
         });
     }
-    match next_element(alloc, text)? {
+    match next_element(means.alloc, text)? {
         Next::Complete { value, at: _, used } => Ok(NextEvent::Complete {
-            said: event_of(alloc, &value, keyed, names),
+            said: event_of(means.alloc, &value, keyed, names),
             used,
         }),
         Next::Partial { at } => Ok(NextEvent::Partial { at }),

@@ -49,8 +49,8 @@ struct Outline {
 
 /// What maps are read by: where memory comes from, and what maps so far were like.
 #[derive(Drop)]
-pub(crate) struct Means {
-    pub alloc: Global,
+pub struct Means {
+    pub(crate) alloc: Global,
     kept: Vec<Outline>,
     // Whether outlines are kept.
     is_keeping: bool,
@@ -179,7 +179,7 @@ fn outline_at(alloc: Global, text: &[u8], from: usize, end: usize) -> Option<Out
 
 impl Means {
     /// Those of a text whose maps come one after another.
-    pub(crate) fn new(alloc: Global) -> Means {
+    pub fn new(alloc: Global) -> Means {
         Means {
             alloc,
             kept: Vec::new(alloc),

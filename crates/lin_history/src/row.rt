@@ -9,12 +9,15 @@ ghost use Rattle.lin_history.specs.Stream.{told_by};
 ghost use Rattle.lin_history.specs.inner.Reads.{IsTold, IsToldOn, IsPutBehind};
 ghost use Rattle.lin_history.specs.Rests.{told_of, IsBegun, IsOpen, IsOpenRow, IsWaiting};
 ghost use Rattle.lin_history.specs.inner.Rests.{IsFar, IsFarRow, IsWhole, IsWholeRow};
-ghost use Rattle.lin_history.specs.Table.{event as told_in};
+ghost use Rattle.lin_history.specs.Table.{bare, event as told_in};
+ghost use Rattle.lin_history.specs.PassedMaps.{keyword_of};
+ghost use Rattle.lin_history.specs.inner.Passing.{passed_more};
 ghost use Rattle.lin_events.specs.declared.items.Item.TheVariants.{Int};
 ghost use Rattle.lin_history.specs.inner.Small.{small_body, small_event, small_taken};
 ghost use Rattle.lin_history.specs.inner.Usual.{IsTaken, events_of};
 
 use crate::outlines::Means;
+use crate::passed::PassedOver;
 use crate::small::{Deed, Small, val_of};
 use crate::table::{EventFault, event_of};
 use crate::usual::{Taken, next_small, next_usual};
@@ -32,6 +35,8 @@ pub(crate) struct Row {
     pub waiting: VecDeque<Event>,
     // The first fault. The maps behind it tell nothing, but a fault of EDN among them comes first.
     pub ends: Option<EventFault>,
+    // Those of its maps that are passed over.
+    pub passed: PassedOver,
 }
 
 /// How far a list or vector is read.
@@ -53,6 +58,7 @@ pub(crate) fn begin_row(alloc: Global, text: &[u8]) -> Option<Row>
         series,
         waiting: VecDeque::new(alloc),
         ends: None,
+        passed: PassedOver::none(),
     })
 }
 
@@ -114,7 +120,7 @@ pub(crate) fn read_maps(
 
 /// The usual map behind the white from a place on, with so many levels at most.
 #[inline(always)]
-fn next_taken(
+pub(crate) fn next_taken(
     means: &mut Means,
     keyed: bool,
     text: &[u8],
@@ -202,6 +208,7 @@ fn take_map(
 ) -> Result<(), OutOfMemory>
     ensures begun { Begins names.old names.new }
     ensures series { row.new.series ≡ row.old.series }
+    ensures over { OnOk result (row.new.passed ≡ passed_more row.old.passed (keyword_of (bare (view element.now)))) }
     ensures told { OnOk result ((m : Reading) → IsReading keyed names.new m → (vs : List Value) → told_by m (values_of vs) ≡ told_of row.old
         → told_by m (values_of (vs ++ view element.now ∷ [])) ≡ told_of row.new) }
 {
@@ -213,6 +220,7 @@ fn take_map(
         &mut row.ends,
         names,
     )?;
+    row.passed.take(element);
     Ok(())
 }
 

@@ -99,7 +99,7 @@ pub(crate) fn is_same(word: &[u8], other: &[u8]) -> bool
 }
 
 /// Whether an element is a keyword.
-fn is_word(element: &Edn, word: &[u8]) -> bool
+pub(crate) fn is_word(element: &Edn, word: &[u8]) -> bool
     ensures { result ≡ says word.now (view element.now) }
 {
     match element {

@@ -2,7 +2,7 @@
 //!
 //! What is inlined here keeps a map's event in registers up to where it is put. An event that is handed on in memory is written in
 //! parts and read whole, for which a processor waits: that took a tenth of the time of reading.
-ghost use Rattle.std.specs.Prelude.{◌≡◌, ℕ, Bool, pos, suc, ◌<◌, ◌≤◌, true, false, None, Some, Ok, IfSome, List, length, drop, slice_index, [], ◌∷◌};
+ghost use Rattle.std.specs.Prelude.{◌≡◌, ℕ, Bool, codes, pos, suc, ◌<◌, ◌≤◌, true, false, None, Some, Ok, IfSome, List, length, drop, slice_index, [], ◌∷◌};
 ghost use Rattle.std.specs.List.{slice_range};
 ghost use Rattle.lin_edn.specs.Grammar.{Element, IsTagAt, Row, ShortBlanks};
 ghost use Rattle.lin_edn.specs.Run.{run_value};
@@ -14,15 +14,16 @@ ghost use Rattle.lin_names.specs.Spelled.{seen};
 ghost use Rattle.lin_names.specs.declared.said.Said.TheVariants as said;
 ghost use Rattle.lin_history.specs.Reading.{Reading, IsReading};
 ghost use Rattle.lin_history.specs.inner.Fields.{given_view, plain_view, value_of};
-ghost use Rattle.lin_history.specs.Table.{body_of, event, is_by_keyword};
+ghost use Rattle.lin_history.specs.Table.{body_of, event, is_word};
+ghost use Rattle.lin_history.specs.PassedMaps.{keyword_of};
 ghost use Rattle.lin_history.specs.inner.Small.{small_event as event_of_small, small_taken};
 ghost use Rattle.lin_history.specs.inner.Usual.{AreParts, IsKeyOf, ArePlaced, IsAdded, IsPlaced, IsProcess, IsValueAt, IsUpTo, IsMapAt, IsTaken, TellsWith};
 
 use crate::outlines::Means;
 use crate::small::{Small, deed_of, number_in, small_with};
 use crate::table::{
-    EventType, Given, Plain, event_said, function_named, is_keyword, is_same, is_value_told,
-    process_number, type_named,
+    EventType, Given, Plain, event_said, function_named, is_same, is_value_told, process_number,
+    type_named,
 };
 use crate::values::{pair_at, pair_key, plain_in, plain_pair, string_at, value_at};
 use lin_edn::{
@@ -93,8 +94,8 @@ struct Doing {
 #[derive(Clone, Copy)]
 enum Process {
     Number(u64),
-    /// A keyword, as that of the nemesis.
-    Named,
+    /// The keyword `:nemesis`.
+    Nemesis,
 }
 
 /// Keeps the value of a key that stands once; else nothing, which is told.
@@ -244,12 +245,11 @@ fn word_of<'a>(text: &'a [u8], place: Extent) -> Option<&'a [u8]>
     Some(&text[place.at..place.until])
 }
 
-/// Whether a word that begins at a place is a keyword. It stands apart, so that numbers set nothing up for it.
-#[inline(never)]
-fn is_name(at: usize, word: &[u8]) -> bool
-    ensures { result ≡ is_by_keyword (run_value at word.now ∷ []) }
+/// Whether a word is the keyword of the nemesis.
+fn is_nemesis(word: &[u8]) -> bool
+    ensures { result ≡ true → (p : ℕ) → is_word (codes ":nemesis") (run_value p word.now) ≡ true }
 {
-    is_keyword(&run_element(at, word))
+    is_same(word, b":nemesis")
 }
 
 /// The process that a word says, which begins at a place.
@@ -260,8 +260,8 @@ fn process_in(at: usize, word: &[u8]) -> Option<Process>
     if let Some(number) = integer(word) {
         return Some(Process::Number(process_number(number)?));
     }
-    if is_name(at, word) {
-        return Some(Process::Named);
+    if is_nemesis(word) {
+        return Some(Process::Nemesis);
     }
     None
 }
@@ -419,11 +419,12 @@ fn usual_event(
     ensures begun { Begins names.old names.new }
     ensures told { IfSome result (λ told. (m : Reading) → IsReading keyed names.new m → (levels : ℕ) (es : Entries) → levels ≤ 64 → ArePlaced text.now levels es places →
         event m (value.map es) ≡ Ok told) }
+    ensures over { IfSome result (λ _. (levels : ℕ) (es : Entries) → ArePlaced text.now levels es places → keyword_of (value.map es) ≡ []) }
 {
     let place = places.process?;
     let process = match process_in(place.at, word_of(text, place)?)? {
         Process::Number(number) => number,
-        Process::Named => return Some(None),
+        Process::Nemesis => return Some(None),
     };
     let event_type = type_named(word_of(text, places.event_type?)?)?;
     let name = function_named(word_of(text, places.function?)?)?;
@@ -446,11 +447,12 @@ fn small_event(keyed: bool, text: &[u8], places: ValueExtents, used: usize) -> O
     ensures used { IfSome result (λ small. small.used ≡ used) }
     ensures told { IfSome result (λ small. (m : Reading) → m.keyed ≡ keyed → (levels : ℕ) (es : Entries) → levels ≤ 64 → ArePlaced text.now levels es places →
         event m (value.map es) ≡ Ok (Some (event_of_small small))) }
+    ensures over { IfSome result (λ _. (levels : ℕ) (es : Entries) → ArePlaced text.now levels es places → keyword_of (value.map es) ≡ []) }
 {
     let place = places.process?;
     let process = match process_in(place.at, word_of(text, place)?)? {
         Process::Number(number) => number,
-        Process::Named => return None,
+        Process::Nemesis => return None,
     };
     let event_type = type_named(word_of(text, places.event_type?)?)?;
     let name = function_named(word_of(text, places.function?)?)?;

@@ -1,5 +1,5 @@
 -- The answers for a history and for its objects.
-use Rattle.std.specs.Prelude.{ℕ, Bool, true, false, List, [], ◌++◌, Option, Some, None, codes, decimal, is_some}
+use Rattle.std.specs.Prelude.{ℕ, ◌==◌, Bool, true, false, List, [], ◌++◌, Option, Some, None, codes, decimal, is_some, if◌then◌else◌}
 use Rattle.lin_events.specs.declared.items.Item.{Item}
 use Rattle.lin_objects.specs.declared.kinds.Kind.{Kind}
 use Rattle.lin_texts.specs.Kinds.{kind_text}
@@ -42,6 +42,10 @@ answer_json status answer = codes "{" ++ head_json false status answer ++ codes 
 abbrev pub counted_json : Bool → Status → List ℕ → ℕ → List ℕ
 counted_json fails status answer events = codes "{" ++ head_json fails status answer ++ codes ",\"events\":" ++ decimal events
 
+-- that so many maps are passed over, if any are
+abbrev pub passed_json : ℕ → List ℕ
+passed_json passed = if passed == 0 then [] else codes ",\"passed\":" ++ decimal passed
+
 module _ (names : List (List ℕ)) where
   -- the name of an object; a word for a kind has no byte that is escaped
   abbrev pub named_json : Item → Kind → List ℕ
@@ -56,9 +60,11 @@ module _ (names : List (List ℕ)) where
   failed_key None = []
   failed_key (Some key) = codes ",\"failed\":" ++ string_json (item_text names key)
 
-  abbrev pub objects_front : Option Item → Status → List ℕ → ℕ → List ℕ
-  objects_front failed status answer events = counted_json (is_some failed) status answer events ++ failed_key failed ++ codes ",\"objects\":["
+  -- what stands in front of the objects, where so many maps of the file are passed over
+  abbrev pub objects_front : Option Item → Status → List ℕ → ℕ → ℕ → List ℕ
+  objects_front failed status answer events passed =
+      counted_json (is_some failed) status answer events ++ passed_json passed ++ failed_key failed ++ codes ",\"objects\":["
 
   -- the answer for a history of so many events, with those for its objects, which are these texts
-  abbrev pub checked_json : Option Item → Status → List ℕ → ℕ → List ℕ → List ℕ
-  checked_json failed status answer events objects = objects_front failed status answer events ++ objects ++ codes "]}"
+  abbrev pub checked_json : Option Item → Status → List ℕ → ℕ → ℕ → List ℕ → List ℕ
+  checked_json failed status answer events passed objects = objects_front failed status answer events passed ++ objects ++ codes "]}"

@@ -1,7 +1,7 @@
 //! Answers, of a whole history and of its objects.
 ghost use Rattle.std.specs.Prelude.{◌≡◌, ◌++◌, OnOk, codes, is_some};
 ghost use Rattle.lin_texts.specs.Items.{item_text};
-ghost use Rattle.lin_json.specs.Answers.{answer_json, counted_json, failed_key, file_front, head_json, named_json, object_json, objects_front, status_number as number_of, valid_text};
+ghost use Rattle.lin_json.specs.Answers.{answer_json, counted_json, failed_key, file_front, head_json, named_json, object_json, objects_front, passed_json, status_number as number_of, valid_text};
 ghost use Rattle.lin_json.specs.Strings.{string_json};
 
 use crate::strings::put_string;
@@ -122,6 +122,17 @@ fn put_failed_key(text: &mut Vec<u8>, names: &Names, failed: Option<Item>) -> Re
     }
 }
 
+/// Puts last that so many maps were passed over, if any were.
+fn put_passed(text: &mut Vec<u8>, passed: u64) -> Result<(), AllocError>
+    ensures { OnOk result (text.new.items ≡ text.old.items ++ passed_json passed) }
+{
+    if passed == 0 {
+        return Ok(());
+    }
+    text.extend_from_slice(b",\"passed\":")?;
+    put_number(text, passed)
+}
+
 /// Puts the answer last, and how many events the history has, where this object is a no beside it, or none.
 fn put_counted_for(
     text: &mut Vec<u8>,
@@ -137,19 +148,22 @@ fn put_counted_for(
     }
 }
 
-/// Puts what stands in front of the objects last: the answer, and the object that is a no beside an undecided whole, if one is.
+/// Puts what stands in front of the objects last: the answer, how many maps were passed over, and the object that is a no beside an undecided whole, if one is.
 pub fn put_objects_front(
     text: &mut Vec<u8>,
     names: &Names,
     head: Head,
     events: usize,
+    passed: u64,
     failed: Option<Item>,
 ) -> Result<(), AllocError>
-    ensures { OnOk result (text.new.items ≡ text.old.items ++ objects_front names.now failed head.entry.status head.entry.answer.now events) }
+    ensures { OnOk result (text.new.items ≡ text.old.items ++ objects_front names.now failed head.entry.status head.entry.answer.now events passed) }
 {
     put_counted_for(text, head, events, failed)?;
+    put_passed(text, passed)?;
     put_failed_key(text, names, failed)?;
-    text.extend_from_slice(b",\"objects\":[")
+    text.extend_from_slice(b",\"objects\":[")?;
+    Ok(())
 }
 
 /// Puts the key and the kind of an object last.

@@ -5,6 +5,8 @@ mod answers;
 mod explanations;
 mod failures;
 mod strings;
+mod unopened;
 
 pub use answers::{Head, put_answer, put_file_front, put_object, put_objects_front};
 pub use explanations::{put_explanation, put_refusal};
+pub use unopened::put_unopened;

@@ -7,7 +7,7 @@ use Rattle.std.proofs.lemmas.List.Elements.{All-contains, Contains-append_right}
 use Rattle.std.proofs.lemmas.List.Kept.{AllPairs-cons}
 use Rattle.std.proofs.lemmas.List.Quantifiers.{all_pairs_remove}
 use Rattle.lin_lists.specs.lemmas.Elements.{all_of, first_or_rest, nothing_in}
-use Rattle.lin_certificates.specs.BagConflicts.{AtLeast}
+use Rattle.lin_certificates.specs.Numbers.{AtLeast}
 use Rattle.lin_certificates.specs.lemmas.Counting.{first_apart, no_more, pairs_rest}
 use Rattle.lin_locks.specs.inner.Debts.{AreAll}
 

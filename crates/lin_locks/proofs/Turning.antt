@@ -8,7 +8,7 @@ use Rattle.lin_events.specs.declared.calls.Call.{Call}
 use Rattle.lin_events.specs.declared.events.Event.{Event}
 use Rattle.lin_events.specs.lemmas.OneMore.{one_call}
 use Rattle.lin_events.specs.Operations.{IsOperation}
-use Rattle.lin_certificates.specs.BagConflicts.{AtLeast}
+use Rattle.lin_certificates.specs.Numbers.{AtLeast}
 use Rattle.lin_locks.specs.declared.sides.Debt.{Debt}
 use Rattle.lin_locks.specs.inner.Debts.{AreAll, AreOwed, AreRising, Config, IsBalanced, IsOfLock, IsPaid, IsPlacedOpen, agrees, lock_call}
 use Rattle.lin_locks.proofs.Lists.{all_map, beside_one, least_fits, least_map, least_of_list, least_without, there_in, without}

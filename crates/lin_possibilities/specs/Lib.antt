@@ -4,6 +4,7 @@ pub mod Running
 pub mod inner
 pub mod lemmas
 pub mod Ranks
+pub mod Whole
 pub mod Words
 pub mod Outcomes
 pub mod Texts

@@ -18,7 +18,9 @@ use Rattle.lin_possibilities.specs.declared.listing.Listed.{Listed}
 use Rattle.lin_possibilities.specs.declared.outcomes.Before.{Before}
 use Rattle.lin_possibilities.specs.declared.outcomes.Outcomes.{Outcomes}
 use Rattle.lin_possibilities.specs.Ranks.{IsRisingBy, members_in, reply_rank, state_rank}
+use Rattle.lin_possibilities.specs.Whole.{whole_state}
 use Rattle.lin_possibilities.specs.Words.{after_text, ahead_of, reply_words}
+use Rattle.lin_possibilities.specs.declared.words.Extent.TheVariants.{Short, Whole}
 
 -- the events before the end of a failing operation, where that was invoked, and the reply that its end has; none where it is a fail
 pub record Failing : Type 0 where
@@ -42,10 +44,11 @@ pub record AreAll {T : Type 0} (shows : List Placed → T → Type 0) (rank : T 
   pub once : AllPairs ◌≢◌ all
   pub rising : IsRisingBy rank all
 
--- of all of them the first, at most so many, and how many there are
-pub record IsListing {T : Type 0} (is_entry : T → ListLine → Type 0) (most : ℕ) (all : List T) (listed : Listed) : Type 0 where
+-- how many of them there are, and of the first, at most so many, the lines and the whole words
+pub record IsListing {T : Type 0} (is_entry : T → ListLine → Type 0) (whole_words : T → List ℕ) (most : ℕ) (all : List T) (listed : Listed) : Type 0 where
   pub counted : listed.count ≡ length all
   pub entries : AllZip is_entry (take most all) listed.entries.items
+  pub whole : map (λ words. words.items) listed.whole.items ≡ map whole_words (take most all)
 
 -- where the end is a fail no reply is listed
 abbrev pub most_of : Option Reply → ℕ
@@ -68,12 +71,12 @@ module _ (names : List (List ℕ)) where
   abbrev pub AreReplies : Failing → List Reply → Type 0
   AreReplies f replies = AreAll (Answers f.kind f.events f.process) (reply_rank names (members_in f.recorded)) replies
 
-  -- Of the replies and of the states the first three. A reply is told with the operations ahead of the failing one, a state with the last of all.
+  -- Of the replies and of the states the first three, in lines and whole. A reply is told with the operations ahead of the failing one, a state with the last of all.
   pub record AreOutcomes (f : Failing) (outcomes : Outcomes) : Type 0 where
     pub replies : List Reply
     pub states : List State
     pub are_replies : AreReplies f replies
     pub are_states : AreStates f.kind f.events states
-    pub replies_listed : IsListing (IsEntry (Answers f.kind f.events f.process) (reply_words names (members_in f.recorded)) (ahead_of f.call) f.events) (most_of f.recorded) replies outcomes.replies
-    pub states_listed : IsListing (IsEntry (LeavesIn f.kind f.events) (state_text names) (λ order. order) f.events) 3 states outcomes.states
-    pub just_that : IsTrue outcomes.is_just_that ↔ (map (reply_words names (members_in f.recorded)) replies ≡ map (state_text names) states)
+    pub replies_listed : IsListing (IsEntry (Answers f.kind f.events f.process) (reply_words Short names (members_in f.recorded)) (ahead_of f.call) f.events) (reply_words Whole names (members_in f.recorded)) (most_of f.recorded) replies outcomes.replies
+    pub states_listed : IsListing (IsEntry (LeavesIn f.kind f.events) (state_text names) (λ order. order) f.events) (whole_state names) 3 states outcomes.states
+    pub just_that : IsTrue outcomes.is_just_that ↔ (map (reply_words Short names (members_in f.recorded)) replies ≡ map (state_text names) states)

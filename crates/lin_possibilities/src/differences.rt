@@ -3,13 +3,12 @@ ghost use Rattle.std.specs.Prelude.{◌≡◌, ◌++◌, ◌+◌, codes, length,
 ghost use Rattle.std.specs.List.{list_any};
 ghost use Rattle.lin_events.specs.Items.{item_cmp, item_eq};
 ghost use Rattle.lin_lists.specs.Sets.{IsRising};
-ghost use Rattle.lin_tables.specs.Values.{items_text};
 ghost use Rattle.lin_possibilities.specs.Ranks.{lacked};
-ghost use Rattle.lin_possibilities.specs.Words.{difference_text};
+ghost use Rattle.lin_possibilities.specs.Words.{difference_text, items_words};
 
+use crate::words::{Extent, put_items_words};
 use lin_events::{IntSet, Item};
 use lin_names::Names;
-use lin_tables::put_items;
 use std::alloc::{AllocError, Global};
 
 /// What the one set has besides the other, and what it lacks of it.
@@ -60,46 +59,68 @@ impl Difference {
     }
 
     /// Puts the words last.
-    pub(crate) fn put(&self, words: &mut Vec<u8>, names: &Names) -> Result<(), AllocError>
-        ensures { OnOk result (words.new.items ≡ words.old.items ++ difference_text names.now self.now.more.items self.now.lacking.items) }
+    pub(crate) fn put(
+        &self,
+        words: &mut Vec<u8>,
+        extent: Extent,
+        names: &Names,
+    ) -> Result<(), AllocError>
+        ensures { OnOk result (words.new.items ≡ words.old.items ++ difference_text extent names.now self.now.more.items self.now.lacking.items) }
     {
-        put_difference(words, names, self.more.as_slice(), self.lacking.as_slice())
+        put_difference(
+            words,
+            extent,
+            names,
+            self.more.as_slice(),
+            self.lacking.as_slice(),
+        )
     }
 }
 
 /// Puts last what a set has besides.
-fn put_with(words: &mut Vec<u8>, names: &Names, more: &[Item]) -> Result<(), AllocError>
-    ensures { OnOk result (words.new.items ≡ words.old.items ++ (codes "with " ++ items_text names.now more.now)) }
+fn put_with(
+    words: &mut Vec<u8>,
+    extent: Extent,
+    names: &Names,
+    more: &[Item],
+) -> Result<(), AllocError>
+    ensures { OnOk result (words.new.items ≡ words.old.items ++ (codes "with " ++ items_words extent names.now more.now)) }
 {
     words.extend_from_slice(b"with ")?;
-    put_items(words, names, more)
+    put_items_words(words, extent, names, more)
 }
 
 /// Puts last what a set lacks.
-fn put_without(words: &mut Vec<u8>, names: &Names, lacking: &[Item]) -> Result<(), AllocError>
-    ensures { OnOk result (words.new.items ≡ words.old.items ++ (codes "without " ++ items_text names.now lacking.now)) }
+fn put_without(
+    words: &mut Vec<u8>,
+    extent: Extent,
+    names: &Names,
+    lacking: &[Item],
+) -> Result<(), AllocError>
+    ensures { OnOk result (words.new.items ≡ words.old.items ++ (codes "without " ++ items_words extent names.now lacking.now)) }
 {
     words.extend_from_slice(b"without ")?;
-    put_items(words, names, lacking)
+    put_items_words(words, extent, names, lacking)
 }
 
 /// Puts last what a set has besides, and what it lacks.
 fn put_difference(
     words: &mut Vec<u8>,
+    extent: Extent,
     names: &Names,
     more: &[Item],
     lacking: &[Item],
 ) -> Result<(), AllocError>
-    ensures { OnOk result (words.new.items ≡ words.old.items ++ difference_text names.now more.now lacking.now) }
+    ensures { OnOk result (words.new.items ≡ words.old.items ++ difference_text extent names.now more.now lacking.now) }
 {
     match (more, lacking) {
         ([], []) => Ok(()),
-        ([], _) => put_without(words, names, lacking),
-        (_, []) => put_with(words, names, more),
+        ([], _) => put_without(words, extent, names, lacking),
+        (_, []) => put_with(words, extent, names, more),
         _ => {
-            put_with(words, names, more)?;
+            put_with(words, extent, names, more)?;
             words.push(b' ')?;
-            put_without(words, names, lacking)
+            put_without(words, extent, names, lacking)
         }
     }
 }

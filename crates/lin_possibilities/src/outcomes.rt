@@ -70,11 +70,18 @@ pub fn outcomes_of(
         before.recorded,
     )?;
     let states = states_told(alloc, before.names, possible)?;
-    let is_just_that = are_same_words(replies.as_slice(), states.as_slice());
+    let is_just_that = are_same_words(
+        alloc,
+        before.names,
+        before.recorded,
+        replies.as_slice(),
+        states.as_slice(),
+    )?;
     let mut leading = Leading {
         names: before.names,
         events: before.events,
         possible,
+        recorded: before.recorded,
         call: Some(before.call),
     };
     let replies = listed_of(

@@ -1,5 +1,5 @@
 //! The lines that tell what was possible.
-ghost use Rattle.std.specs.Prelude.{◌≡◌, ◌++◌, ◌-◌, Bool, List, MatchOption, OnOk, map, option_map};
+ghost use Rattle.std.specs.Prelude.{◌≡◌, ◌++◌, ◌-◌, Bool, List, MatchOption, None, OnOk, map, option_map};
 ghost use Rattle.lin_events.specs.declared.items.Item.{Item as ItemOf};
 ghost use Rattle.lin_events.specs.declared.calls.Name.{Name as NameOf};
 ghost use Rattle.lin_events.specs.declared.events.Event.{Event as EventOf};
@@ -9,11 +9,14 @@ ghost use Rattle.lin_possibilities.specs.After.{IsAfter};
 ghost use Rattle.lin_possibilities.specs.Outcomes.{AreStates, failing_of};
 ghost use Rattle.lin_possibilities.specs.Texts.{after_first, being_text, could_be, counted, listed_text, more_text, not_listed, noun_text, outcomes_text, replies_text, right_text, states_text, was_text, which_text};
 ghost use Rattle.lin_tables.specs.Values.{state_text};
+ghost use Rattle.lin_possibilities.specs.declared.words.Extent.TheVariants.{Short};
+ghost use Rattle.lin_possibilities.specs.inner.OutcomesTelling.{words_in};
 
 use crate::listing::Listed;
 use crate::outcomes::{Before, Outcomes};
 use crate::possible::Possible;
 use crate::told::{Told, states_told};
+use crate::words::Extent;
 use lin_events::{OutOfMemory, Reply};
 use lin_names::Names;
 use lin_objects::Kind;
@@ -190,30 +193,54 @@ pub fn put_outcomes(
     put_states(text, before.kind, outcomes, count, budget)
 }
 
+/// Puts a state last, as lines tell it.
+fn put_state(
+    alloc: Global,
+    text: &mut Vec<u8>,
+    names: &Names,
+    state: &Told,
+) -> Result<(), AllocError>
+    ensures { OnOk result (text.new.items ≡ text.old.items ++ words_in Short names.now None state.now.what) }
+{
+    let words = state.what.words(alloc, Extent::Short, names, None)?;
+    text.extend_from_slice(words.as_slice())
+}
+
 /// Puts last which states there are: both of two, or how many of more.
-fn put_which(text: &mut Vec<u8>, states: &[Told]) -> Result<(), AllocError>
-    ensures { OnOk result (text.new.items ≡ text.old.items ++ which_text (map (λ t. t.words.items) states.now)) }
+fn put_which(
+    alloc: Global,
+    text: &mut Vec<u8>,
+    names: &Names,
+    states: &[Told],
+) -> Result<(), AllocError>
+    ensures { OnOk result (text.new.items ≡ text.old.items ++ which_text (map (λ t. words_in Short names.now None t.what) states.now)) }
 {
     match states {
         [] => Ok(()),
-        [one] => text.extend_from_slice(one.words.as_slice()),
+        [one] => put_state(alloc, text, names, one),
         [one, other] => {
-            text.extend_from_slice(one.words.as_slice())?;
+            put_state(alloc, text, names, one)?;
             text.extend_from_slice(b" or ")?;
-            text.extend_from_slice(other.words.as_slice())
+            put_state(alloc, text, names, other)
         }
         _ => put_counted(text, b"one of ", states.len(), b" states"),
     }
 }
 
 /// Puts last that the object was one of the states.
-fn put_being_one(text: &mut Vec<u8>, kind: Kind, states: &[Told]) -> Result<(), AllocError>
-    ensures { OnOk result (text.new.items ≡ text.old.items ++ was_text kind (map (λ t. t.words.items) states.now)) }
+fn put_being_one(
+    alloc: Global,
+    text: &mut Vec<u8>,
+    names: &Names,
+    kind: Kind,
+    states: &[Told],
+) -> Result<(), AllocError>
+    ensures { OnOk result (text.new.items ≡ text.old.items ++ was_text kind (map (λ t. words_in Short names.now None t.what) states.now)) }
 {
     text.extend_from_slice(b" and the ")?;
     text.extend_from_slice(noun(kind).as_bytes())?;
     text.extend_from_slice(b" was ")?;
-    put_which(text, states)
+    put_which(alloc, text, names, states)
 }
 
 /// Puts last what the object was, by what is possible after some events; nothing where that isn't known.
@@ -231,6 +258,6 @@ pub fn put_was(
         return Ok(());
     };
     let states = states_told(alloc, names, possible)?;
-    put_being_one(text, kind, states.as_slice())?;
+    put_being_one(alloc, text, names, kind, states.as_slice())?;
     Ok(())
 }

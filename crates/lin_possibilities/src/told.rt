@@ -8,62 +8,41 @@ ghost use Rattle.lin_events.specs.WellFormed.{IsWellFormed};
 ghost use Rattle.lin_objects.specs.declared.kinds.Kind.{Kind as KindOf};
 ghost use Rattle.lin_possibilities.specs.After.{IsAfter, IsWay};
 ghost use Rattle.lin_possibilities.specs.Possible.{Answers, LeavesIn};
-ghost use Rattle.lin_tables.specs.Values.{state_text};
 ghost use Rattle.lin_possibilities.specs.Outcomes.{HasNotCrashed};
 ghost use Rattle.lin_possibilities.specs.Ranks.{IsRisingBy, members_in, reply_rank as reply_rank_of, state_rank as state_rank_of};
-ghost use Rattle.lin_possibilities.specs.Words.{reply_words as reply_words_of};
-ghost use Rattle.lin_possibilities.specs.inner.OutcomesTelling.{AreTold, IsTold, rank_in};
+ghost use Rattle.lin_possibilities.specs.declared.possibilities.Possibility.TheVariants.{Reply as ReplyOf, State as StateOf};
+ghost use Rattle.lin_possibilities.specs.declared.words.Extent.TheVariants.{Short};
+ghost use Rattle.lin_possibilities.specs.inner.OutcomesTelling.{AreTold, IsTold, rank_in, words_in};
 
-use crate::differences::Difference;
+use crate::possibilities::{Possibility, have_same_value};
 use crate::possible::Possible;
 use crate::ranks::{Rank, recorded_members, reply_rank, state_rank};
+use crate::words::Extent;
 use lin_events::{IntSet, OutOfMemory, Reply};
 use lin_names::{Names, spelled_is_total};
 use lin_objects::State;
-use lin_tables::{put_reply, put_state};
 use std::alloc::{AllocError, Global};
 
-/// A state or a reply as it is told.
+/// A state or a reply as it is told. Its words are made only where they are listed.
 #[derive(Drop)]
 pub(crate) struct Told {
     pub(crate) rank: Rank,
-    pub(crate) words: Vec<u8>,
+    pub(crate) what: Possibility,
     /// The way by which a legal order is told that shows it.
     pub(crate) way: usize,
 }
 
 /// A state as it is told.
 fn told_state(alloc: Global, names: &Names, found: &(State, usize)) -> Result<Told, OutOfMemory>
-    ensures { IfOk result (λ told. IsTold names.now (state_rank_of names.now) (state_text names.now) found.now told) }
+    ensures { IfOk result (λ told. IsTold names.now (state_rank_of names.now) StateOf found.now told) }
 {
     let rank = state_rank(alloc, names, &found.0)?;
-    let mut words = Vec::new(alloc);
-    put_state(&mut words, names, &found.0)?;
+    let state = found.0.copy(alloc)?;
     Ok(Told {
         rank,
-        words,
+        what: Possibility::State(state),
         way: found.1,
     })
-}
-
-/// The words of a reply. Members are told by how they differ from those that were recorded, if members were.
-fn reply_words(
-    alloc: Global,
-    names: &Names,
-    recorded: Option<&IntSet>,
-    reply: &Reply,
-) -> Result<Vec<u8>, AllocError>
-    ensures { IfOk result (λ words. words.items ≡ reply_words_of names.now (option_map (λ m. m.now) recorded.entry) reply.now) }
-{
-    let mut words = Vec::new(alloc);
-    match (recorded, reply) {
-        (Some(recorded), Reply::Members(members)) => {
-            let difference = Difference::of(alloc, members, recorded)?;
-            difference.put(&mut words, names)?;
-        }
-        _ => put_reply(&mut words, names, reply)?,
-    }
-    Ok(words)
 }
 
 /// A reply as it is told.
@@ -73,13 +52,13 @@ fn told_reply(
     recorded: Option<&IntSet>,
     found: &(Reply, usize),
 ) -> Result<Told, OutOfMemory>
-    ensures { IfOk result (λ told. IsTold names.now (reply_rank_of names.now (option_map (λ m. m.now) recorded.entry)) (reply_words_of names.now (option_map (λ m. m.now) recorded.entry)) found.now told) }
+    ensures { IfOk result (λ told. IsTold names.now (reply_rank_of names.now (option_map (λ m. m.now) recorded.entry)) ReplyOf found.now told) }
 {
     let rank = reply_rank(alloc, names, recorded, &found.0)?;
-    let words = reply_words(alloc, names, recorded, &found.0)?;
+    let reply = found.0.copy(alloc)?;
     Ok(Told {
         rank,
-        words,
+        what: Possibility::Reply(reply),
         way: found.1,
     })
 }
@@ -90,7 +69,7 @@ fn all_states(
     names: &Names,
     found: &[(State, usize)],
 ) -> Result<Vec<Told>, OutOfMemory>
-    ensures { IfOk result (λ told. AllZip (IsTold names.now (state_rank_of names.now) (state_text names.now)) found.now told.items) }
+    ensures { IfOk result (λ told. AllZip (IsTold names.now (state_rank_of names.now) StateOf) found.now told.items) }
 {
     let mut told = Vec::new(alloc);
     for entry in found {
@@ -106,7 +85,7 @@ fn all_replies(
     recorded: Option<&IntSet>,
     found: &[(Reply, usize)],
 ) -> Result<Vec<Told>, OutOfMemory>
-    ensures { IfOk result (λ told. AllZip (IsTold names.now (reply_rank_of names.now (option_map (λ m. m.now) recorded.entry)) (reply_words_of names.now (option_map (λ m. m.now) recorded.entry))) found.now told.items) }
+    ensures { IfOk result (λ told. AllZip (IsTold names.now (reply_rank_of names.now (option_map (λ m. m.now) recorded.entry)) ReplyOf) found.now told.items) }
 {
     let mut told = Vec::new(alloc);
     for entry in found {
@@ -132,7 +111,7 @@ pub(crate) fn states_told(
     possible: &Possible,
 ) -> Result<Vec<Told>, OutOfMemory>
     ensures { IfOk result (λ told. (functions : ItemOf → NameOf → Bool) (kind : KindOf) (h : List EventOf) → IsWellFormed functions h → IsAfter possible.now kind h
-        → AreTold names.now (LeavesIn kind h) (IsWay possible.now) (state_rank_of names.now) (state_text names.now) told.items) }
+        → AreTold names.now (LeavesIn kind h) (IsWay possible.now) (state_rank_of names.now) StateOf told.items) }
 {
     let found = possible.states(alloc)?;
     Ok(in_order(names, all_states(alloc, names, found.as_slice())?))
@@ -147,7 +126,7 @@ pub(crate) fn replies_told(
     recorded: Option<&Reply>,
 ) -> Result<Vec<Told>, OutOfMemory>
     ensures { IfOk result (λ told. (functions : ItemOf → NameOf → Bool) (kind : KindOf) (h : List EventOf) → IsWellFormed functions h → IsAfter possible.now kind h → HasNotCrashed h process
-        → AreTold names.now (Answers kind h process) (IsWay possible.now) (reply_rank_of names.now (members_in (option_map (λ r. r.now) recorded.entry))) (reply_words_of names.now (members_in (option_map (λ r. r.now) recorded.entry))) told.items) }
+        → AreTold names.now (Answers kind h process) (IsWay possible.now) (reply_rank_of names.now (members_in (option_map (λ r. r.now) recorded.entry))) ReplyOf told.items) }
 {
     let found = possible.replies(alloc, process)?;
     let members = recorded_members(recorded);
@@ -155,23 +134,41 @@ pub(crate) fn replies_told(
 }
 
 /// Whether both are told by the same words.
-fn is_same(one: &Told, other: &Told) -> bool
-    ensures { IsTrue result ↔ (one.now.words.items ≡ other.now.words.items) }
+fn is_same(
+    alloc: Global,
+    names: &Names,
+    recorded: Option<&Reply>,
+    one: &Told,
+    other: &Told,
+) -> Result<bool, AllocError>
+    ensures { IfOk result (λ same. IsTrue same ↔ (words_in Short names.now (members_in (option_map (λ r. r.now) recorded.entry)) one.now.what ≡ words_in Short names.now (members_in (option_map (λ r. r.now) recorded.entry)) other.now.what)) }
 {
-    one.words.as_slice() == other.words.as_slice()
+    if have_same_value(recorded, &one.what, &other.what) {
+        return Ok(true);
+    }
+    let words = one.what.words(alloc, Extent::Short, names, recorded)?;
+    let others = other.what.words(alloc, Extent::Short, names, recorded)?;
+    Ok(words.as_slice() == others.as_slice())
 }
 
-/// Whether all are told by the same words, one by one.
-pub(crate) fn are_same_words(told: &[Told], others: &[Told]) -> bool
-    ensures { IsTrue result ↔ (map (λ t. t.words.items) told.now ≡ map (λ t. t.words.items) others.now) }
+/// Whether all are told by the same words, one by one. Of the same values no words are made, and behind a difference none.
+pub(crate) fn are_same_words(
+    alloc: Global,
+    names: &Names,
+    recorded: Option<&Reply>,
+    told: &[Told],
+    others: &[Told],
+) -> Result<bool, AllocError>
+    ensures { IfOk result (λ same. IsTrue same ↔ (map (λ t. words_in Short names.now (members_in (option_map (λ r. r.now) recorded.entry)) t.what) told.now ≡ map (λ t. words_in Short names.now (members_in (option_map (λ r. r.now) recorded.entry)) t.what) others.now)) }
 {
     if told.len() != others.len() {
-        return false;
+        return Ok(false);
     }
     for at in 0..told.len() {
-        if !is_same(&told[at], &others[at]) {
-            return false;
+        let same = is_same(alloc, names, recorded, &told[at], &others[at])?;
+        if !same {
+            return Ok(false);
         }
     }
-    true
+    Ok(true)
 }

@@ -1,4 +1,4 @@
--- The words of `verify`: files and an order.
+-- The words of `verify`, files and an order, and texts that say none.
 use Rattle.std.proofs.Common.{◌≡◌, ◌∙◌, ◌<◌, ◌⊎◌, inl, inr, ◌++◌, ◌∷◌, [], ◌==◌, ◌+◌, cond, ℕ, zero, suc, arith, Bool, true, false, List, Bor, Vec, Global, Some, None, Result, Ok, Err, length, map, refl, sym, ap, subst, true≢false, codes}
 use Rattle.std.proofs.lemmas.List.{length-map, map-append}
 use Rattle.std.specs.Prelude.{MatchBool, count_by, fold, is_ok}
@@ -6,6 +6,9 @@ use Rattle.std.specs.Str.{bytes_eq}
 use Rattle.clap.specs.Words.{Row, Text, first_of}
 use Rattle.lin_texts.specs.Orders.{SaidPair, order_said, order_written}
 use Rattle.lin_names.specs.Names.{Numbering}
+use Rattle.lin_formats.specs.Inputs.{AreRefused, AreRefusedFor}
+use Rattle.lin_formats.specs.declared.verdicts.Refusal.{Refusal}
+use Rattle.lin_formats.specs.declared.verdicts.Refusal.TheVariants.{Edn, Event, Truncated, Full, BadPair, Few}
 use Rattle.lin_texts.specs.declared.settings.Settings.{Settings}
 use Rattle.lin_program.specs.CommandLine.{EndInOrder, HasSettings, IsUnsaid, SayOrder, Says, input_count, names_input_twice, texts_of}
 use Rattle.lin_program.specs.declared.misuse.NoLine.{NoLine}
@@ -105,3 +108,15 @@ counted_behind names = from_any 0 names
 pub written_where_read : (number : Numbering) (written : Result (List SaidPair) ℕ) → is_ok (order_said number written) ≡ true → is_ok written ≡ true
 written_where_read number (Ok pairs) is = refl
 written_where_read number (Err at) is = is
+
+none_below : (n : ℕ) → n < 0 → ⊥
+none_below n below = omega arith
+
+-- where no event is wanted, a file is refused for a fault of its own
+pub refused_anyway : (keyed : Bool) (names : List (List ℕ)) (text : List ℕ) (refusal : Refusal) → AreRefusedFor keyed names 0 text refusal → AreRefused keyed names text refusal
+refused_anyway keyed names text (Edn at cause) are = are
+refused_anyway keyed names text (Event at cause) are = are
+refused_anyway keyed names text (Truncated at) are = are
+refused_anyway keyed names text Full are = are
+refused_anyway keyed names text (BadPair at) are = are
+refused_anyway keyed names text (Few count wanted) are = none_below count (subst (λ n. count < n) are.3 are.4)

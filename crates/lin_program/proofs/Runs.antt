@@ -11,11 +11,12 @@ use Rattle.lin_texts.specs.declared.settings.Settings.{Settings}
 use Rattle.lin_texts.specs.declared.faults.RunFault.{RunFault}
 use Rattle.lin_texts.specs.declared.status.Status.{Status}
 use Rattle.lin_texts.specs.declared.status.Status.TheVariants.{Yes}
-use Rattle.lin_program.specs.Endings.{AreTold, AreToldRefused, MayTellRefused}
+use Rattle.lin_program.specs.Endings.{AreToldRefused, MayTellWhy}
 use Rattle.lin_program.specs.Exit.{SystemWords, worse, worst}
 use Rattle.lin_program.specs.Reporting.{AreAmong, AreReportedFrom, AreReports, Reporting, one_more}
 use Rattle.lin_program.specs.declared.endings.Stop.{Stop}
-use Rattle.lin_program.specs.declared.system.Message.TheVariants.{NothingRead}
+use Rattle.lin_program.specs.Readings.{AreReadingsOf, AreTold, IsTold}
+use Rattle.lin_program.specs.declared.readings.Reading.{Reading}
 
 -- the texts behind references
 abbrev texts : List (Bor (List ℕ)) → List (List ℕ)
@@ -71,21 +72,35 @@ kept_among names some more i d inside among (inr put) =
     let of_files : Bor (List ℕ) → Type 0 = λ x. Contains (texts names) x.now in
     subst (AreAmong (texts names)) (sym put) (All-append of_files some (get_or names i d ∷ []) among (All-cons of_files (get_or names i d) [] here (All-nil of_files)))
 
+-- the readings that were put last are of the files, where the next one is of theirs
+pub readings_among : (names : List (Bor (List ℕ))) (some more : List Reading) (reading : Reading) (i : ℕ) (d : Bor (List ℕ)) → i < length names → AreReadingsOf (texts names) some
+    → reading.name ≡ get_or names i d → (more ≡ some) ⊎ (more ≡ some ++ reading ∷ []) → AreReadingsOf (texts names) more
+readings_among names some more reading i d inside among is (inl same) = subst (AreReadingsOf (texts names)) (sym same) among
+readings_among names some more reading i d inside among is (inr put) =
+    let split : texts names ≡ texts (take i names) ++ (get_or names i d).now ∷ texts (drop (suc i) names) =
+    ap texts (split_at names i d inside) ∙ map-append (λ (n : Bor (List ℕ)). n.now) (take i names) (get_or names i d ∷ drop (suc i) names) in
+    let here : Contains (texts names) (get_or names i d).now =
+    subst (λ ns. Contains ns (get_or names i d).now) (sym split) (Contains-append_right (texts (take i names)) _ _ (0, omega arith, refl)) in
+    let of_files : Reading → Type 0 = λ x. Contains (texts names) x.name.now in
+    let its : of_files reading = subst (λ (n : Bor (List ℕ)). Contains (texts names) n.now) (sym is) here in
+    subst (AreReadingsOf (texts names)) (sym put) (All-append of_files some (reading ∷ []) among (All-cons of_files reading [] its (All-nil of_files)))
+
 module _ {S F C O : Type 0} (system : SystemWords S F C O) (old : S) where
-  -- one more of the files is told of
-  pub told_more : (names : List (Bor (List ℕ))) (i : ℕ) (d : Bor (List ℕ)) (now new : S) (told : Bool) → i < length names → AreTold system old (take i names) now
-      → system.tells now (NothingRead (get_or names i d)) told new → AreTold system old (take (i + 1) names) new
-  told_more names i d now new told inside so_far one = subst (λ ns. AreTold system old ns new) (sym (take_more names i d inside)) (AreTold.one_more so_far (get_or names i d) told new one)
+  -- one more of the readings is told of
+  pub told_more : (readings : List Reading) (i : ℕ) (d : Reading) (now new : S) → i < length readings → AreTold system old (take i readings) now
+      → IsTold system now (get_or readings i d) new → AreTold system old (take (i + 1) readings) new
+  told_more readings i d now new inside so_far one = subst (λ rs. AreTold system old rs new) (sym (take_more readings i d inside)) (AreTold.one_more so_far (get_or readings i d) new one)
 
   -- all are
-  pub told_all : (names : List (Bor (List ℕ))) (i : ℕ) (now : S) → length names ≤ i → AreTold system old (take i names) now → AreTold system old names now
-  told_all names i now past so_far = subst (λ ns. AreTold system old ns now) (take_all i names past) so_far
+  pub told_all : (readings : List Reading) (i : ℕ) (now : S) → length readings ≤ i → AreTold system old (take i readings) now → AreTold system old readings now
+  told_all readings i now past so_far = subst (λ rs. AreTold system old rs now) (take_all i readings past) so_far
 
+module _ {S F C O : Type 0} (system : SystemWords S F C O) (held : F → Option (List ℕ)) (settings : Settings) (old : S) where
   -- of one more it may be told that it is refused
-  pub refused_more : (names : List (Bor (List ℕ))) (i : ℕ) (d : Bor (List ℕ)) (now new : S) → i < length names → AreToldRefused system old (take i names) now
-      → MayTellRefused system now (Some (get_or names i d).now) new → AreToldRefused system old (take (i + 1) names) new
+  pub refused_more : (names : List (Bor (List ℕ))) (i : ℕ) (d : Bor (List ℕ)) (now new : S) → i < length names → AreToldRefused system held settings old (take i names) now
+      → MayTellWhy system held settings now (get_or names i d).now new → AreToldRefused system held settings old (take (i + 1) names) new
   refused_more names i d now new inside so_far one =
-      subst (λ ns. AreToldRefused system old ns new) (sym (take_more names i d inside)) (AreToldRefused.one_more so_far (get_or names i d) new one)
+      subst (λ ns. AreToldRefused system held settings old ns new) (sym (take_more names i d inside)) (AreToldRefused.one_more so_far (get_or names i d) new one)
 
-  pub refused_all : (names : List (Bor (List ℕ))) (i : ℕ) (now : S) → length names ≤ i → AreToldRefused system old (take i names) now → AreToldRefused system old names now
-  refused_all names i now past so_far = subst (λ ns. AreToldRefused system old ns now) (take_all i names past) so_far
+  pub refused_all : (names : List (Bor (List ℕ))) (i : ℕ) (now : S) → length names ≤ i → AreToldRefused system held settings old (take i names) now → AreToldRefused system held settings old names now
+  refused_all names i now past so_far = subst (λ ns. AreToldRefused system held settings old ns now) (take_all i names past) so_far

@@ -6,7 +6,9 @@ use Rattle.lin_report.specs.Explanations.{IsExplainRun}
 use Rattle.lin_report.specs.Pictures.{IsDrawRun}
 use Rattle.lin_report.specs.Reports.{IsCheckRun}
 use Rattle.lin_report.specs.Runs.{IsEditRun}
+use Rattle.lin_formats.specs.Inputs.{AreRefusedFor}
 use Rattle.lin_formats.specs.Verdicts.{IsVerifyRun}
+use Rattle.lin_formats.specs.declared.verdicts.Refusal.{Refusal}
 use Rattle.lin_texts.specs.declared.status.Status.{Status}
 use Rattle.lin_texts.specs.declared.faults.RunFault.{RunFault}
 use Rattle.lin_texts.specs.declared.faults.RunFault.TheVariants.{ReadFailed, OutOfMemory}
@@ -16,11 +18,13 @@ use Rattle.lin_program.specs.declared.words.Line.TheVariants.{Check, Explain, Dr
 use Rattle.lin_program.specs.declared.words.OrderSource.{OrderSource}
 use Rattle.lin_program.specs.declared.words.OrderSource.TheVariants.{Given, InFile}
 use Rattle.lin_program.specs.Exit.{SystemWords, exit_status}
+use Rattle.lin_program.specs.Readings.{AreReadingsOf, AreTold}
+use Rattle.lin_program.specs.declared.readings.Reading.{Reading}
 use Rattle.lin_program.specs.Reporting.{AreAmong, AreReported, Holds, IsNotOpened, stopped}
 use Rattle.lin_report.specs.declared.formats.ReportFormat.TheVariants.{Text}
-use Rattle.lin_program.specs.Tasks.{HasBudget, format_among, heading_in, report_format}
+use Rattle.lin_program.specs.Tasks.{HasBudget, IsUnkeyedRun, format_among, report_format}
 use Rattle.lin_program.specs.declared.endings.Stop.{Stop}
-use Rattle.lin_program.specs.declared.endings.Stop.TheVariants.{NotOpened, Fault}
+use Rattle.lin_program.specs.declared.endings.Stop.TheVariants.{NotOpened, NoKey, Written, Fault}
 use Rattle.lin_program.specs.declared.system.Message.{Message}
 use Rattle.lin_program.specs.declared.system.Message.TheVariants as message
 
@@ -31,6 +35,14 @@ IsRunnable (Explain settings key all_keys with_order format file) = HasBudget se
 IsRunnable (Draw settings key last file) = HasBudget settings
 IsRunnable (Verify settings order files) = HasBudget settings
 IsRunnable (Edit settings file) = HasBudget settings
+
+-- how the files of a line are read
+abbrev pub settings_of : Line → Settings
+settings_of (Check settings format files) = settings
+settings_of (Explain settings key all_keys with_order format file) = settings
+settings_of (Draw settings key last file) = settings
+settings_of (Verify settings order files) = settings
+settings_of (Edit settings file) = settings
 
 -- the files that a line has reported on, of which each should have an event
 abbrev pub reported_files : Line → List (List ℕ)
@@ -48,12 +60,6 @@ read_files (Draw settings key last file) = file.now ∷ []
 read_files (Verify settings order files) = map (λ n. n.now) files.items
 read_files (Edit settings file) = []
 
--- Of the files of these names, one after the other, it was told that no event was read from them, or that couldn't be told: from the old system on.
-pub data AreTold {S F C O : Type 0} (system : SystemWords S F C O) (old : S) : List (Bor (List ℕ)) → S → Type 0 where
-  nothing : AreTold system old [] old
-  one_more : {names : List (Bor (List ℕ))} {now : S} → AreTold system old names now → (path : Bor (List ℕ)) (told : Bool) (new : S) →
-      system.tells now (message.NothingRead path) told new → AreTold system old (names ++ path ∷ []) new
-
 -- the file that the line's commands pull from, if it names one
 abbrev pub pulled_from : Line → Option (List ℕ)
 pulled_from (Edit settings file) = option_map (λ n. n.now) file
@@ -66,11 +72,24 @@ pulled_from (Verify settings order files) = None
 abbrev pub MayTellRefused : {S F C O : Type 0} → SystemWords S F C O → S → Option (List ℕ) → S → Type 0
 MayTellRefused system old name new = (new ≡ old) ⊎ ((path : Bor (List ℕ)) × (words : Bor (List ℕ)) × (name ≡ Some path.now) × ((told : Bool) × system.tells old (message.Refused path words) told new))
 
+-- a file that holds these bytes at first is refused, read with these settings
+abbrev pub IsRefused : Settings → Option (List ℕ) → Type 0
+IsRefused settings held = (left : Option (List ℕ)) × (bytes : List ℕ) × Consumes held left bytes
+    × (names : List (List ℕ)) × (refusal : Refusal) × AreRefusedFor settings.keyed names settings.at_least bytes refusal
+
+-- The bytes that a file holds are given by a function: the system opened the file of this name, a plain one, once more, and that is refused.
+abbrev pub IsStillRefused : {S F C O : Type 0} → SystemWords S F C O → (F → Option (List ℕ)) → Settings → S → List ℕ → Type 0
+IsStillRefused {S} {F} system held settings now name = (file : F) × system.reopens now name file × IsRefused settings (held file)
+
+-- nothing was told; or of the file of this name that it is refused, or that couldn't be told, and it is, still
+abbrev pub MayTellWhy : {S F C O : Type 0} → SystemWords S F C O → (F → Option (List ℕ)) → Settings → S → List ℕ → S → Type 0
+MayTellWhy system held settings old name new = (new ≡ old) ⊎ (IsStillRefused system held settings old name × MayTellRefused system old (Some name) new)
+
 -- of the files of these names, one after the other, it may have been told that they are refused: from the old system on
-pub data AreToldRefused {S F C O : Type 0} (system : SystemWords S F C O) (old : S) : List (Bor (List ℕ)) → S → Type 0 where
-  nothing : AreToldRefused system old [] old
-  one_more : {names : List (Bor (List ℕ))} {now : S} → AreToldRefused system old names now → (path : Bor (List ℕ)) (new : S) →
-      MayTellRefused system now (Some path.now) new → AreToldRefused system old (names ++ path ∷ []) new
+pub data AreToldRefused {S F C O : Type 0} (system : SystemWords S F C O) (held : F → Option (List ℕ)) (settings : Settings) (old : S) : List (Bor (List ℕ)) → S → Type 0 where
+  nothing : AreToldRefused system held settings old [] old
+  one_more : {names : List (Bor (List ℕ))} {now : S} → AreToldRefused system held settings old names now → (path : Bor (List ℕ)) (new : S) →
+      MayTellWhy system held settings now path.now new → AreToldRefused system held settings old (names ++ path ∷ []) new
 
 -- the text ends with this byte
 abbrev pub EndsIn : ℕ → List ℕ → Type 0
@@ -107,12 +126,12 @@ module _ {S F C O : Type 0} (system : SystemWords S F C O) (held : F → Option 
   abbrev pub IsVerifiedFrom : Settings → List ℕ → List (List ℕ) → Result Status Stop → Type 0
   IsVerifiedFrom settings name files outcome =
       ((text : List ℕ) × IsReadIn system held commanded now name text × ((order : List ℕ) × IsWithoutLineEnd text order
-      × AreReported system held commanded now written (λ several. IsVerifyRun settings order) (λ several. heading_in Text) files outcome))
+      × AreReported system held commanded now written (λ several. IsUnkeyedRun (IsVerifyRun settings order)) (λ several. Text) files outcome))
       ⊎ ((stop : Stop) × (outcome ≡ Err stop) × IsUnreadIn system held commanded now name stop)
 
   -- the order, which is said or in a file, is judged of the files of these names
   abbrev pub IsVerifiedBy : Settings → OrderSource → List (List ℕ) → Result Status Stop → Type 0
-  IsVerifiedBy settings (Given text) files outcome = AreReported system held commanded now written (λ several. IsVerifyRun settings text.now) (λ several. heading_in Text) files outcome
+  IsVerifiedBy settings (Given text) files outcome = AreReported system held commanded now written (λ several. IsUnkeyedRun (IsVerifyRun settings text.now)) (λ several. Text) files outcome
   IsVerifiedBy settings (InFile name) files outcome = IsVerifiedFrom settings name.now files outcome
 
   -- the commands of standard input are carried out over the file of a name, which is opened whatever the name, or over nothing
@@ -125,12 +144,12 @@ module _ {S F C O : Type 0} (system : SystemWords S F C O) (held : F → Option 
   -- What the line says is done, with its settings: each of the files is reported on; `edit` reads commands from standard input.
   abbrev pub IsOutcomeOf : Line → Result Status Stop → Type 0
   IsOutcomeOf (Check settings format files) outcome =
-      AreReported system held commanded now written (λ several. IsCheckRun settings (format_among several (report_format format)))
-      (λ several. heading_in (format_among several (report_format format))) (map (λ n. n.now) files.items) outcome
+      AreReported system held commanded now written (λ several. IsUnkeyedRun (IsCheckRun settings (format_among several (report_format format))))
+      (λ several. format_among several (report_format format)) (map (λ n. n.now) files.items) outcome
   IsOutcomeOf (Explain settings key all_keys with_order format file) outcome =
       AreReported system held commanded now written (λ several. IsExplainRun settings (record { key = key; all_keys = all_keys; with_order = with_order; format = report_format format }))
-      (λ several. heading_in Text) (file.now ∷ []) outcome
-  IsOutcomeOf (Draw settings key last file) outcome = AreReported system held commanded now written (λ several. IsDrawRun settings key) (λ several. heading_in Text) (file.now ∷ []) outcome
+      (λ several. Text) (file.now ∷ []) outcome
+  IsOutcomeOf (Draw settings key last file) outcome = AreReported system held commanded now written (λ several. IsDrawRun settings key) (λ several. Text) (file.now ∷ []) outcome
   IsOutcomeOf (Verify settings order files) outcome = IsVerifiedBy settings order (map (λ n. n.now) files.items) outcome
   IsOutcomeOf (Edit settings file) outcome = IsEditedIn settings (option_map (λ n. n.now) file) outcome
 
@@ -144,18 +163,25 @@ module _ {S F C O : Type 0} (system : SystemWords S F C O) (old new : S) where
   TellsOfFile path (message.NotOpened name) = name.now ≡ path
   TellsOfFile path _ = ⊥
 
-  -- The program ends so after a run: with its exit status, and nothing is told; or with 6 where a file can't be opened, or with the status of
-  -- the fault, and that is told.
+  -- by these words no event of the file of the name has the key that is asked about
+  abbrev pub TellsOfKey : List ℕ → List ℕ → Message → Type 0
+  TellsOfKey path words (message.NoKey name said) = (name.now ≡ path) × (said.now ≡ words)
+  TellsOfKey path words _ = ⊥
+
+  -- The program ends so after a run: with its exit status, and nothing is told; or with 5 where no event has the key that is asked about, with 6 where
+  -- a file can't be opened, or with the status of the fault, and that is told, unless it is written.
   abbrev pub EndsBy : Result Status Stop → ℕ → Type 0
   EndsBy (Ok end) status = (new ≡ old) × (status ≡ exit_status (Ok end))
   EndsBy (Err (NotOpened path)) status = IsTold (TellsOfFile path.now) × (status ≡ 6)
+  EndsBy (Err (NoKey path words)) status = IsTold (TellsOfKey path.now words.items) × (status ≡ 5)
+  EndsBy (Err Written) status = (new ≡ old) × (status ≡ 6)
   EndsBy (Err (Fault fault)) status = IsTold (λ m. m ≡ message.Fault fault) × (status ≡ exit_status (Err fault))
 
--- The program ends so on a line: what the line says is done with the old system; of some of its files it may be told that no event was read, and of
--- some, and of the one that commands pull from, that they are refused; and it ends by the outcome.
+-- The program ends so on a line: what the line says is done with the old system; of some of its files it may be told which maps were passed over, or
+-- that no event was read, and of some, and of the one that commands pull from, that they are refused; and it ends by the outcome.
 abbrev pub Ends : {S F C O : Type 0} → SystemWords S F C O → S → S → (F → Option (List ℕ)) → (C → Option (List ℕ)) → (O → Option (List ℕ)) → Line → ℕ → Type 0
 Ends {S} system old new held commanded written line status =
     (outcome : Result Status Stop) × IsOutcomeOf system held commanded written old line outcome
-    × (names : List (Bor (List ℕ))) × AreAmong (reported_files line) names × (told : S) × AreTold system old names told
-    × (refused : List (Bor (List ℕ))) × AreAmong (read_files line) refused × (noted : S) × AreToldRefused system told refused noted
+    × (readings : List Reading) × AreReadingsOf (reported_files line) readings × (told : S) × AreTold system old readings told
+    × (refused : List (Bor (List ℕ))) × AreAmong (read_files line) refused × (noted : S) × AreToldRefused system held (settings_of line) told refused noted
     × (last : S) × MayTellRefused system noted (pulled_from line) last × EndsBy system last new outcome status

@@ -42,11 +42,13 @@ worse one other = if nat_lt (rank one) (rank other) then other else one
 abbrev pub worst : List Status → Status
 worst statuses = fold worse Yes statuses
 
--- The words of a system, which mean what it answers: it opened the file of that name as this one, or couldn't; this is standard input, and
--- runs write there; it was told the message, or that couldn't be done, and from the one system it is the other then.
+-- The words of a system, which mean what it answers: it opened the file of that name as this one, or couldn't; that is a plain file, and it opened
+-- it once more as this one; this is standard input, and runs write there; it was told the message, or that couldn't be done, and from the one
+-- system it is the other then.
 pub record SystemWords (S F C O : Type 0) : Type 1 where
   pub opens : S → List ℕ → F → Type 0
   pub lacks : S → List ℕ → Type 0
+  pub reopens : S → List ℕ → F → Type 0
   pub reads : S → C → Type 0
   pub writes : S → O → Type 0
   pub tells : S → Message → Bool → S → Type 0

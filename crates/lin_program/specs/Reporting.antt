@@ -1,5 +1,5 @@
 -- Files that are reported on, one behind the other.
-use Rattle.std.specs.Prelude.{◌≡◌, ◌⊎◌, ℕ, Bool, true, false, List, [], ◌∷◌, ◌++◌, Option, Result, Ok, Err, codes, length, nat_lt, take, All, Contains}
+use Rattle.std.specs.Prelude.{◌≡◌, ◌⊎◌, ℕ, Bool, true, false, List, [], ◌∷◌, ◌++◌, Option, Some, None, Result, Ok, Err, codes, length, nat_lt, take, All, Contains}
 use Rattle.std.specs.Borrow.{Bor}
 use Rattle.std.specs.Io.KnownBytes.{Appends, Keeps}
 use Rattle.std.specs.Str.{bytes_eq}
@@ -7,23 +7,40 @@ use Rattle.lin_texts.specs.declared.status.Status.{Status}
 use Rattle.lin_texts.specs.declared.faults.RunFault.{RunFault}
 use Rattle.lin_texts.specs.declared.faults.RunFault.TheVariants.{WriteFailed, OutOfMemory}
 use Rattle.lin_program.specs.Exit.{SystemWords, worst}
-use Rattle.lin_program.specs.Tasks.{Running}
+use Rattle.lin_program.specs.Tasks.{Running, heading_in, lack_in}
+use Rattle.lin_report.specs.declared.asked_keys.RunEnding.{RunEnding}
+use Rattle.lin_report.specs.declared.asked_keys.RunEnding.TheVariants as ending
+use Rattle.lin_report.specs.declared.formats.ReportFormat.{ReportFormat}
 use Rattle.lin_program.specs.declared.endings.Stop.{Stop}
-use Rattle.lin_program.specs.declared.endings.Stop.TheVariants.{NotOpened, Fault}
+use Rattle.lin_program.specs.declared.endings.Stop.TheVariants.{NotOpened, NoKey, Written, Fault}
 
 -- A run over a file that holds this at first, behind what names it where it is one of several: that is written, and then what the run writes; or it
 -- couldn't be written whole, and there was no run.
-abbrev pub IsRunBehind : Running → Bool → List ℕ → Option (List ℕ) → Option (List ℕ) → Option (List ℕ) → Result Status RunFault → Type 0
+abbrev pub IsRunBehind : Running → Bool → List ℕ → Option (List ℕ) → Option (List ℕ) → Option (List ℕ) → Result RunEnding RunFault → Type 0
 IsRunBehind running false heading file before after outcome = (left : Option (List ℕ)) × running file left before after outcome
 IsRunBehind running true heading file before after outcome =
     ((left : Option (List ℕ)) × (behind : Option (List ℕ)) × Appends before behind heading × running file left behind after outcome)
     ⊎ ((outcome ≡ Err WriteFailed) × ((n : ℕ) × Appends before after (take n heading)))
     ⊎ ((outcome ≡ Err OutOfMemory) × Keeps before after)
 
+-- Runs end so at the file of this name, which can't be opened: this line is written in its place, or, where there is none, nothing.
+abbrev pub IsEndAt : Option (List ℕ) → List ℕ → Option (List ℕ) → Option (List ℕ) → Stop → Type 0
+IsEndAt None name before after stop = ((path : Bor (List ℕ)) × (stop ≡ NotOpened path) × (path.now ≡ name)) × (after ≡ before)
+IsEndAt (Some line) name before after stop =
+    ((stop ≡ Written) × Appends before after line)
+    ⊎ ((stop ≡ Fault WriteFailed) × ((n : ℕ) × Appends before after (take n line)))
+    ⊎ ((stop ≡ Fault OutOfMemory) × Keeps before after)
+
 -- the outcome of runs that a fault of one run stops
 abbrev pub stopped : Result Status RunFault → Result Status Stop
 stopped (Ok status) = Ok status
 stopped (Err fault) = Err (Fault fault)
+
+-- the outcome of runs of which one ends so over the file of this name: a key that no event has stops them, as a fault does
+abbrev pub IsEndedAt : List ℕ → Result RunEnding RunFault → Result Status Stop → Type 0
+IsEndedAt name (Ok (ending.Answered status)) outcome = outcome ≡ Ok status
+IsEndedAt name (Ok (ending.NoKey words)) outcome = (path : Bor (List ℕ)) × (outcome ≡ Err (NoKey path words)) × (path.now ≡ name)
+IsEndedAt name (Err fault) outcome = outcome ≡ Err (Fault fault)
 
 -- the name is that of standard input
 abbrev pub is_input : List ℕ → Bool
@@ -68,16 +85,16 @@ module _ {S F C O : Type 0} (system : SystemWords S F C O) (held : F → Option 
   abbrev pub IsNotOpened : List ℕ → Stop → Type 0
   IsNotOpened name stop = (path : Bor (List ℕ)) × (stop ≡ NotOpened path) × (path.now ≡ name) × (is_input name ≡ false) × system.lacks now name
 
-  -- the file of a name is reported on, behind what names it where it is one of several; or it can't be opened, and nothing is written
-  abbrev pub IsReportOn : Running → (List ℕ → List ℕ) → Bool → Reporting
-  IsReportOn running heading is_named name before after outcome =
-      ((file : Option (List ℕ)) × Holds name file × (run : Result Status RunFault) × IsRunBehind running is_named (heading name) file before after run × (outcome ≡ stopped run))
-      ⊎ ((stop : Stop) × (outcome ≡ Err stop) × IsNotOpened name stop × (after ≡ before))
+  -- The file of a name is reported on in a format, behind what names it where it is one of several; or it can't be opened.
+  abbrev pub IsReportOn : Running → ReportFormat → Bool → Reporting
+  IsReportOn running format is_named name before after outcome =
+      ((file : Option (List ℕ)) × Holds name file × (run : Result RunEnding RunFault) × IsRunBehind running is_named (heading_in format name) file before after run × IsEndedAt name run outcome)
+      ⊎ ((stop : Stop) × (outcome ≡ Err stop) × (is_input name ≡ false) × system.lacks now name × IsEndAt (lack_in format name) name before after stop)
 
   -- the files of these names are reported on, which are several or not; then each is behind what names it. A function gives what the output holds
-  abbrev pub AreReportedAs : (O → Option (List ℕ)) → (Bool → Running) → (Bool → List ℕ → List ℕ) → Bool → List (List ℕ) → Result Status Stop → Type 0
-  AreReportedAs written running heading several names outcome =
-      (out : O) × system.writes now out × AreReportedFrom (IsReportOn (running several) (heading several) several) (written out) names outcome
+  abbrev pub AreReportedAs : (O → Option (List ℕ)) → (Bool → Running) → (Bool → ReportFormat) → Bool → List (List ℕ) → Result Status Stop → Type 0
+  AreReportedAs written running format several names outcome =
+      (out : O) × system.writes now out × AreReportedFrom (IsReportOn (running several) (format several) several) (written out) names outcome
 
-  abbrev pub AreReported : (O → Option (List ℕ)) → (Bool → Running) → (Bool → List ℕ → List ℕ) → List (List ℕ) → Result Status Stop → Type 0
-  AreReported written running heading names outcome = AreReportedAs written running heading (nat_lt 1 (length names)) names outcome
+  abbrev pub AreReported : (O → Option (List ℕ)) → (Bool → Running) → (Bool → ReportFormat) → List (List ℕ) → Result Status Stop → Type 0
+  AreReported written running format names outcome = AreReportedAs written running format (nat_lt 1 (length names)) names outcome

@@ -1,9 +1,12 @@
 -- What is done with one file.
-use Rattle.std.specs.Prelude.{◌≤◌, ◌++◌, ℕ, Bool, true, false, List, Option, Result, codes}
+use Rattle.std.specs.Prelude.{◌≡◌, ◌≤◌, ◌++◌, ℕ, Bool, true, false, List, Option, Some, None, Result, Ok, Err, codes}
 use Rattle.lin_json.specs.Answers.{file_front}
+use Rattle.lin_json.specs.Unopened.{unopened_json}
 use Rattle.lin_report.specs.Explanations.{IsExplainRun}
 use Rattle.lin_report.specs.Pictures.{IsDrawRun}
 use Rattle.lin_report.specs.Reports.{IsCheckRun}
+use Rattle.lin_report.specs.declared.asked_keys.RunEnding.{RunEnding}
+use Rattle.lin_report.specs.declared.asked_keys.RunEnding.TheVariants.{Answered}
 use Rattle.lin_report.specs.declared.formats.ReportFormat.{ReportFormat as ReportFormat}
 use Rattle.lin_report.specs.declared.formats.ReportFormat.TheVariants as report
 use Rattle.lin_formats.specs.Verdicts.{IsVerifyRun}
@@ -32,6 +35,16 @@ heading_in report.Text name = codes "file " ++ name ++ codes "\n"
 heading_in report.Json name = codes "file " ++ name ++ codes "\n"
 heading_in report.Rest name = file_front name
 
+-- the line of a map that tells that the file of this name can't be opened
+abbrev pub lack_line : List ℕ → List ℕ
+lack_line name = unopened_json name ++ codes "\n"
+
+-- what is written in place of a report on such a file: that line where reports are maps that name their files, else nothing
+abbrev pub lack_in : ReportFormat → List ℕ → Option (List ℕ)
+lack_in report.Text name = None
+lack_in report.Json name = None
+lack_in report.Rest name = Some (lack_line name)
+
 -- a run can be made with this budget
 abbrev pub HasBudget : Settings → Type 0
 HasBudget settings = (1 ≤ settings.budget) × (settings.budget ≤ 1000000)
@@ -45,14 +58,23 @@ settings_of (Verify settings order) = settings
 -- What a run over one file is: what is left of the file goes from the first to the second, what is written from the third to the fourth, and
 -- so it ends.
 abbrev pub Running : Type 1
-Running = Option (List ℕ) → Option (List ℕ) → Option (List ℕ) → Option (List ℕ) → Result Status RunFault → Type 0
+Running = Option (List ℕ) → Option (List ℕ) → Option (List ℕ) → Option (List ℕ) → Result RunEnding RunFault → Type 0
+
+-- the outcome of a run that asks about no key
+abbrev pub answered : Result Status RunFault → Result RunEnding RunFault
+answered (Ok status) = Ok (Answered status)
+answered (Err fault) = Err fault
+
+-- such a run
+abbrev pub IsUnkeyedRun : (Option (List ℕ) → Option (List ℕ) → Option (List ℕ) → Option (List ℕ) → Result Status RunFault → Type 0) → Running
+IsUnkeyedRun is_run old new before after ended = (outcome : Result Status RunFault) × is_run old new before after outcome × (ended ≡ answered outcome)
 
 -- what is done with the file is what the task says, with its settings
 abbrev pub IsTaskRun : Task → Running
-IsTaskRun (Check settings format) old new before after outcome = IsCheckRun settings format old new before after outcome
+IsTaskRun (Check settings format) old new before after outcome = IsUnkeyedRun (IsCheckRun settings format) old new before after outcome
 IsTaskRun (Explain settings question) old new before after outcome = IsExplainRun settings question old new before after outcome
 IsTaskRun (Draw settings key last) old new before after outcome = IsDrawRun settings key old new before after outcome
-IsTaskRun (Verify settings order) old new before after outcome = IsVerifyRun settings order.now old new before after outcome
+IsTaskRun (Verify settings order) old new before after outcome = IsUnkeyedRun (IsVerifyRun settings order.now) old new before after outcome
 
 -- what is done with a file that is one of several, or not
 abbrev pub task_among : Bool → Task → Task
@@ -61,9 +83,9 @@ task_among several (Explain settings question) = Explain settings question
 task_among several (Draw settings key last) = Draw settings key last
 task_among several (Verify settings order) = Verify settings order
 
--- what names a file in front of it
-abbrev pub heading_of : Task → List ℕ → List ℕ
-heading_of (Check settings format) name = heading_in format name
-heading_of (Explain settings question) name = heading_in report.Text name
-heading_of (Draw settings key last) name = heading_in report.Text name
-heading_of (Verify settings order) name = heading_in report.Text name
+-- how what is found is printed, as far as it tells how a file is named
+abbrev pub format_of : Task → ReportFormat
+format_of (Check settings format) = format
+format_of (Explain settings question) = report.Text
+format_of (Draw settings key last) = report.Text
+format_of (Verify settings order) = report.Text

@@ -3,23 +3,28 @@ ghost use Rattle.std.specs.Prelude.{◌≡◌, if◌then◌else◌};
 ghost use Rattle.clap.specs.Words.{kind_of};
 ghost use Rattle.lin_program.specs.Exit as said;
 ghost use Rattle.lin_program.specs.Exit.{exit_status, refusal_status};
-ghost use Rattle.lin_program.specs.Reporting.{stopped as stopped_by};
+ghost use Rattle.lin_program.specs.Reporting.{IsEndedAt, stopped as stopped_by};
 
 use clap::Error;
 use clap::error::ErrorKind;
 use lin_formats::{RunFault, Status};
+use lin_report::RunEnding;
 
-/// The exit status where the command line is refused.
+/// The exit status where the command line is refused, or names a key that no event has.
 pub const LINE_REFUSED: u8 = 5;
 
 /// The exit status where memory or a device failed, or a file can't be opened.
 pub const FAILED: u8 = 6;
 
 /// Why runs over files end early.
-#[derive(Clone, Copy, Debug, PartialEq, Eq)]
+#[derive(Drop)]
 pub enum Stop<'a> {
     /// The file of this name can't be opened.
     NotOpened(&'a str),
+    /// No event of the file of this name has the key that is asked about, as these words tell.
+    NoKey(&'a str, Vec<u8>),
+    /// A file can't be opened, and that is written in place of its report.
+    Written,
     /// Memory or a device failed, or a file is too long.
     Fault(RunFault),
 }
@@ -30,6 +35,17 @@ pub fn stopped<'a>(outcome: Result<Status, RunFault>) -> Result<Status, Stop<'a>
 {
     match outcome {
         Ok(status) => Ok(status),
+        Err(fault) => Err(Stop::Fault(fault)),
+    }
+}
+
+/// The outcome of runs of which one ends so over the file of this name.
+pub fn ended_at<'a>(name: &'a str, ended: Result<RunEnding, RunFault>) -> Result<Status, Stop<'a>>
+    ensures { IsEndedAt name.now ended result }
+{
+    match ended {
+        Ok(RunEnding::Answered(status)) => Ok(status),
+        Ok(RunEnding::NoKey(words)) => Err(Stop::NoKey(name, words)),
         Err(fault) => Err(Stop::Fault(fault)),
     }
 }

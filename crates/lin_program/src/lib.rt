@@ -3,8 +3,9 @@
 
 ghost use Rattle.std.specs.Prelude.{◌≡◌, [], map, option_map};
 ghost use Rattle.std.specs.IoError.{error_kind};
-ghost use Rattle.lin_program.specs.Endings.{AreTold, AreToldRefused, Ends, EndsBy, IsEdited, IsEditedIn, IsOutcomeOf, IsRunnable, IsVerifiedBy, IsVerifiedFrom, MayTellRefused, pulled_from, read_files, reported_files};
+ghost use Rattle.lin_program.specs.Endings.{AreToldRefused, Ends, EndsBy, IsEdited, IsEditedIn, IsOutcomeOf, IsRunnable, IsVerifiedBy, IsVerifiedFrom, MayTellRefused, pulled_from, read_files, reported_files, settings_of};
 ghost use Rattle.lin_program.specs.Program.{EndsOnWords, EndsWithoutWords};
+ghost use Rattle.lin_program.specs.Readings.{AreReadingsOf};
 ghost use Rattle.lin_program.specs.Reporting.{AreAmong};
 ghost use Rattle.lin_program.specs.Tasks.{HasBudget};
 
@@ -13,7 +14,9 @@ mod command_line;
 mod endings;
 mod misuse;
 mod orders;
+mod readings;
 mod refused_files;
+mod refused_orders;
 mod reporting;
 mod said;
 mod system;
@@ -25,9 +28,11 @@ use clap::error::ErrorKind;
 pub use command_line::line;
 pub use endings::{exit_of, exit_of_refusal};
 use endings::{FAILED, LINE_REFUSED, Stop, stopped};
+pub use lin_formats::PassedOver;
 use lin_formats::{Counted, Refusal, RunFault, Settings, Status, refusal_words};
 use lin_report::{Question, run as edit};
 use orders::{bytes_in, without_line_end};
+use readings::{Reading, tell_readings};
 use refused_files::tell_file;
 use reporting::report_all;
 use std::alloc::{AllocError, Global};
@@ -40,8 +45,8 @@ pub use words::{Format, Line, OrderSource};
 /// What is to be told of a line's files, beside what is found.
 #[derive(Drop)]
 struct Notes<'a> {
-    /// The names of those from which no event was read, though one is looked for there.
-    empty: Vec<&'a str>,
+    /// Those of which maps were passed over, or from which no event was read, though one is looked for there.
+    readings: Vec<Reading<'a>>,
     /// The names of those that are refused.
     files: Vec<&'a str>,
     /// Why the file that commands pull from was refused last.
@@ -142,10 +147,10 @@ fn carry_out<'a, S: System>(
     notes: &mut Notes<'a>,
 ) -> Result<Status, Stop<'a>>
     requires runs { IsRunnable line.now }
-    requires none { notes.old.empty.items ≡ [] }
+    requires none { notes.old.readings.items ≡ [] }
     requires unrefused { notes.old.files.items ≡ [] }
     ensures outcome { IsOutcomeOf S.words S.File.remaining S.Commands.remaining S.Out.contents system.now line.now result }
-    ensures named { AreAmong (reported_files line.now) notes.new.empty.items }
+    ensures named { AreReadingsOf (reported_files line.now) notes.new.readings.items }
     ensures noted { AreAmong (read_files line.now) notes.new.files.items }
 {
     match line {
@@ -160,7 +165,7 @@ fn carry_out<'a, S: System>(
                 system,
                 task,
                 files.as_slice(),
-                &mut notes.empty,
+                &mut notes.readings,
                 &mut notes.files,
             )
         }
@@ -184,7 +189,7 @@ fn carry_out<'a, S: System>(
                 system,
                 task,
                 &[*file],
-                &mut notes.empty,
+                &mut notes.readings,
                 &mut notes.files,
             )
         }
@@ -200,7 +205,7 @@ fn carry_out<'a, S: System>(
                 system,
                 task,
                 &[*file],
-                &mut notes.empty,
+                &mut notes.readings,
                 &mut notes.files,
             )
         }
@@ -222,17 +227,10 @@ fn carry_out<'a, S: System>(
     }
 }
 
-/// Tells of each of the files that no event of a client was read from it.
-fn tell_empty<S: System>(system: &mut S, names: &[&str])
-    ensures { AreTold S.words system.old names.now system.new }
-{
-    for name in names {
-        let _is_told = system.tell(&Message::NothingRead(*name));
-    }
-}
-
 /// The settings of the line.
-fn settings_said(line: &Line) -> Settings {
+fn settings_said(line: &Line) -> Settings
+    ensures { result ≡ settings_of line.now }
+{
     match line {
         Line::Check { settings, .. }
         | Line::Explain { settings, .. }
@@ -244,7 +242,7 @@ fn settings_said(line: &Line) -> Settings {
 
 /// Tells of each of the files why it is refused, as it stands now.
 fn tell_files<S: System>(alloc: Global, system: &mut S, settings: Settings, names: &[&str])
-    ensures { AreToldRefused S.words system.old names.now system.new }
+    ensures { AreToldRefused S.words S.File.remaining settings system.old names.now system.new }
 {
     for name in names {
         tell_file(alloc, system, settings, name);
@@ -290,6 +288,11 @@ fn end<S: System>(system: &mut S, outcome: Result<Status, Stop>) -> u8
             let _is_told = system.tell(&Message::NotOpened(name));
             FAILED
         }
+        Err(Stop::NoKey(name, words)) => {
+            let _is_told = system.tell(&Message::NoKey(name, words.as_slice()));
+            LINE_REFUSED
+        }
+        Err(Stop::Written) => FAILED,
         Err(Stop::Fault(fault)) => {
             let _is_told = system.tell(&Message::Fault(fault));
             exit_of(&Err(fault))
@@ -297,19 +300,19 @@ fn end<S: System>(system: &mut S, outcome: Result<Status, Stop>) -> u8
     }
 }
 
-/// Does what the line says, tells from which files no event was read, why files are refused, and why that ended early, if it did, and gives the exit
+/// Does what the line says, tells which maps were passed over and from which files no event was read, why files are refused, and why that ended early, if it did, and gives the exit
 /// status.
 fn run_line<S: System>(alloc: Global, system: &mut S, line: Line) -> u8
     requires { IsRunnable line }
     ensures { Ends S.words system.old system.new S.File.remaining S.Commands.remaining S.Out.contents line.entry result }
 {
     let mut notes = Notes {
-        empty: Vec::new(alloc),
+        readings: Vec::new(alloc),
         files: Vec::new(alloc),
         refused: None,
     };
     let outcome = carry_out(alloc, &*system, &line, &mut notes);
-    tell_empty(system, notes.empty.as_slice());
+    tell_readings(system, notes.readings.as_slice());
     tell_files(alloc, system, settings_said(&line), notes.files.as_slice());
     // (where there is no memory for the words, they aren't told)
     let _is_told = tell_refused(alloc, system, pulled_file(&line), notes.refused).is_ok();

@@ -1,6 +1,6 @@
 //! What is told beside a report of a file that is refused: where, and the rule, as an explanation has it.
-ghost use Rattle.std.specs.Prelude.{Some};
-ghost use Rattle.lin_program.specs.Endings.{MayTellRefused};
+ghost use Rattle.std.specs.Prelude.{IfOk, IfSome};
+ghost use Rattle.lin_program.specs.Endings.{IsStillRefused, MayTellWhy};
 
 use crate::system::{Message, System};
 use lin_formats::{Counted, History, RunFault, Settings, read_placed, refusal_lines};
@@ -21,14 +21,16 @@ fn as_one(alloc: Global, lines: &[u8]) -> Result<Vec<u8>, AllocError> {
     Ok(words)
 }
 
-/// Why the file of this name is refused, as it stands now; nothing where it can't be opened, or isn't.
+/// Why the file of this name is refused, as it stands now; nothing where it isn't, or can't be opened once more.
 fn words_of<S: System>(
     alloc: Global,
     system: &S,
     settings: Settings,
     name: &str,
-) -> Result<Option<Vec<u8>>, RunFault> {
-    let Some(file) = system.open(name) else {
+) -> Result<Option<Vec<u8>>, RunFault>
+    ensures { IfOk result (λ found. IfSome found (λ _. IsStillRefused S.words S.File.remaining settings system.now name.now)) }
+{
+    let Some(file) = system.reopen(name) else {
         return Ok(None);
     };
     let mut file = Counted::new(file);
@@ -45,7 +47,7 @@ fn words_of<S: System>(
 
 /// Tells why the file of this name is refused, as it stands now, where there is memory for that.
 pub fn tell_file<S: System>(alloc: Global, system: &mut S, settings: Settings, name: &str)
-    ensures { MayTellRefused S.words system.old (Some name.now) system.new }
+    ensures { MayTellWhy S.words S.File.remaining settings system.old name.now system.new }
 {
     let Ok(Some(words)) = words_of(alloc, &*system, settings, name) else {
         return;

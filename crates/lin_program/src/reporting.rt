@@ -2,37 +2,82 @@
 ghost use Rattle.std.specs.Prelude.{◌≡◌, ◌⊎◌, ◌++◌, ◌∷◌, [], IfErr, OnOk, Err, ℕ, take, map};
 ghost use Rattle.std.specs.Io.KnownBytes.{Appends, Keeps};
 ghost use Rattle.lin_formats.specs.Devices.{device_of, failures_of};
-ghost use Rattle.lin_program.specs.Tasks.{HasBudget, IsTaskRun, heading_of, settings_of, task_among};
-ghost use Rattle.lin_program.specs.Reporting.{AreAmong, AreReported, IsReportOn, IsRunBehind};
+ghost use Rattle.lin_program.specs.Tasks.{HasBudget, IsTaskRun, format_of, heading_in, lack_in, lack_line, settings_of, task_among};
+ghost use Rattle.lin_program.specs.Readings.{AreReadingsOf};
+ghost use Rattle.lin_program.specs.Reporting.{AreAmong, AreReported, IsEndAt, IsReportOn, IsRunBehind};
 
-use crate::endings::{Stop, stopped, worse};
+use crate::endings::{Stop, ended_at, worse};
+use crate::readings::{Reading, keep_reading};
 use crate::system::System;
-use crate::tasks::Task;
-use lin_formats::{Counted, RunFault, Status, write_whole};
+use crate::tasks::{Task, put_heading, put_lack};
+use lin_formats::{Counted, PassedOver, Refusal, RunFault, Status, write_whole};
+use lin_report::{ReportFormat, RunEnding};
 use std::alloc::Global;
 use std::io::{Read, Write};
 
-/// Writes what names a file, in front of what the task writes of it.
+/// What is told of a file that was reported on, beside what was written, hangs on this.
+#[derive(Drop)]
+struct Seen {
+    /// Whether it is a whole history of no event.
+    is_empty: bool,
+    /// The maps of a whole history that were passed over.
+    passed: PassedOver,
+    /// Whether it isn't refused itself: the text of the order is, by which it is judged.
+    is_order_refused: bool,
+}
+
+/// Writes what names a file, in front of what is written of it.
 fn write_name<W: Write>(
     alloc: Global,
-    task: &Task,
+    format: ReportFormat,
     name: &str,
     out: &mut Counted<W>,
 ) -> Result<(), RunFault>
     requires { failures_of out.old ≡ 0 }
-    ensures whole { OnOk result (Appends (W.contents (device_of out.old)) (W.contents (device_of out.new)) (heading_of task.now name.now)) }
-    ensures beginning { result ≡ Err RunFault.WriteFailed → (n : ℕ) × Appends (W.contents (device_of out.old)) (W.contents (device_of out.new)) (take n (heading_of task.now name.now)) }
+    ensures whole { OnOk result (Appends (W.contents (device_of out.old)) (W.contents (device_of out.new)) (heading_in format name.now)) }
+    ensures beginning { result ≡ Err RunFault.WriteFailed → (n : ℕ) × Appends (W.contents (device_of out.old)) (W.contents (device_of out.new)) (take n (heading_in format name.now)) }
     ensures nothing { result ≡ Err RunFault.OutOfMemory → Keeps (W.contents (device_of out.old)) (W.contents (device_of out.new)) }
     ensures counts { OnOk result (failures_of out.new ≡ 0) }
     ensures faults { IfErr result (λ fault. (fault ≡ RunFault.WriteFailed) ⊎ (fault ≡ RunFault.OutOfMemory)) }
 {
     let mut heading = Vec::new(alloc);
-    task.put_heading(&mut heading, name)?;
+    put_heading(&mut heading, format, name)?;
     write_whole(out, heading.as_slice())
 }
 
-/// Reports on a file that is open, behind what names it where it is one of several. Whether it is a whole history of no event goes to
-/// `is_empty`, where the report comes as far.
+/// Writes that the file of this name can't be opened, where reports are maps that name their files.
+fn write_lack<W: Write>(alloc: Global, name: &str, out: &mut Counted<W>) -> Result<(), RunFault>
+    requires { failures_of out.old ≡ 0 }
+    ensures whole { OnOk result (Appends (W.contents (device_of out.old)) (W.contents (device_of out.new)) (lack_line name.now)) }
+    ensures beginning { result ≡ Err RunFault.WriteFailed → (n : ℕ) × Appends (W.contents (device_of out.old)) (W.contents (device_of out.new)) (take n (lack_line name.now)) }
+    ensures nothing { result ≡ Err RunFault.OutOfMemory → Keeps (W.contents (device_of out.old)) (W.contents (device_of out.new)) }
+    ensures faults { IfErr result (λ fault. (fault ≡ RunFault.WriteFailed) ⊎ (fault ≡ RunFault.OutOfMemory)) }
+{
+    let mut line = Vec::new(alloc);
+    put_lack(alloc, &mut line, name)?;
+    write_whole(out, line.as_slice())
+}
+
+/// How runs end at the file of this name, which can't be opened: that is written in place of its report, or is left to be told.
+fn end_at<'a, W: Write>(
+    alloc: Global,
+    format: ReportFormat,
+    name: &'a str,
+    out: &mut Counted<W>,
+) -> Stop<'a>
+    requires { failures_of out.old ≡ 0 }
+    ensures { IsEndAt (lack_in format name.now) name.now (W.contents (device_of out.old)) (W.contents (device_of out.new)) result }
+{
+    match format {
+        ReportFormat::Text | ReportFormat::Json => Stop::NotOpened(name),
+        ReportFormat::Rest => match write_lack(alloc, name, out) {
+            Ok(()) => Stop::Written,
+            Err(fault) => Stop::Fault(fault),
+        },
+    }
+}
+
+/// Reports on a file that is open, behind what names it where it is one of several. What was seen of it goes to `seen`, where the report comes as far.
 fn report_on<R: Read + Drop, W: Write>(
     alloc: Global,
     task: Task,
@@ -40,24 +85,27 @@ fn report_on<R: Read + Drop, W: Write>(
     is_named: bool,
     file: R,
     out: &mut Counted<W>,
-    is_empty: &mut bool,
-) -> Result<Status, RunFault>
+    seen: &mut Seen,
+) -> Result<RunEnding, RunFault>
     requires budget { HasBudget (settings_of task) }
     requires writes { failures_of out.old ≡ 0 }
-    ensures ran { IsRunBehind (IsTaskRun task.entry) is_named (heading_of task.entry name.now) (R.remaining file) (W.contents (device_of out.old)) (W.contents (device_of out.new)) result }
+    ensures ran { IsRunBehind (IsTaskRun task.entry) is_named (heading_in (format_of task.entry) name.now) (R.remaining file) (W.contents (device_of out.old)) (W.contents (device_of out.new)) result }
     ensures counts { OnOk result (failures_of out.new ≡ 0) }
 {
     if is_named {
-        write_name(alloc, &task, name, out)?;
+        write_name(alloc, task.format(), name, out)?;
     }
     let mut file = Counted::new(file);
     let outcome = task.run(alloc, &mut file, out);
-    *is_empty = file.is_empty();
+    *seen = Seen {
+        is_empty: file.is_empty(),
+        passed: file.passed(),
+        is_order_refused: matches!(file.refused(), Some(Refusal::BadPair { .. })),
+    };
     outcome
 }
 
-/// Reports on the file of this name: on standard input for `-`, else on the file that the system opens. Whether it is a whole history of no
-/// event goes to `is_empty`.
+/// Reports on the file of this name: on standard input for `-`, else on the file that the system opens. What was seen of it goes to `seen`.
 fn report<'a, S: System>(
     alloc: Global,
     system: &S,
@@ -65,21 +113,25 @@ fn report<'a, S: System>(
     name: &'a str,
     is_named: bool,
     out: &mut Counted<S::Out>,
-    is_empty: &mut bool,
+    seen: &mut Seen,
 ) -> Result<Status, Stop<'a>>
     requires budget { HasBudget (settings_of task) }
     requires writes { failures_of out.old ≡ 0 }
-    ensures ran { IsReportOn S.words S.File.remaining S.Commands.remaining system.now (IsTaskRun task.entry) (heading_of task.entry) is_named name.now
+    ensures ran { IsReportOn S.words S.File.remaining S.Commands.remaining system.now (IsTaskRun task.entry) (format_of task.entry) is_named name.now
         (S.Out.contents (device_of out.old)) (S.Out.contents (device_of out.new)) result }
     ensures counts { OnOk result (failures_of out.new ≡ 0) }
 {
     if name == "-" {
         let input = system.commands();
-        return stopped(report_on(alloc, task, name, is_named, input, out, is_empty));
+        let ended = report_on(alloc, task, name, is_named, input, out, seen);
+        return ended_at(name, ended);
     }
     match system.open(name) {
-        Some(file) => stopped(report_on(alloc, task, name, is_named, file, out, is_empty)),
-        None => Err(Stop::NotOpened(name)),
+        Some(file) => {
+            let ended = report_on(alloc, task, name, is_named, file, out, seen);
+            ended_at(name, ended)
+        }
+        None => Err(end_at(alloc, task.format(), name, out)),
     }
 }
 
@@ -92,39 +144,53 @@ fn keep_if<'a>(is_kept: bool, name: &'a str, names: &mut Vec<&'a str>)
     }
 }
 
-/// Whether it is told beside what was written why the file of the name is refused: an explanation says so itself, and standard input is gone.
-fn is_noted(task: &Task, name: &str, status: Status) -> bool {
-    status == Status::Refused && name != "-" && !matches!(task, Task::Explain(..))
+/// Whether it is told beside what was written why the file of the name is refused, where it is: an explanation says so itself, and standard input is
+/// gone.
+fn is_noted(task: &Task, name: &str, status: Status, seen: &Seen) -> bool {
+    status == Status::Refused
+        && !seen.is_order_refused
+        && name != "-"
+        && !matches!(task, Task::Explain(..))
 }
 
-/// Reports on the files of these names, one behind the other, and gives the worst status. The names of those that are whole histories of no
-/// event are put into `empty`, and those of refused ones into `refused`, as far as there is memory for that.
+/// Reports on the files of these names, one behind the other, and gives the worst status. What was seen of those of
+/// which maps were passed over, or which are whole histories of no event, is put into `readings`, and the names of refused ones into `refused`, as far as
+/// there is memory for that.
 pub fn report_all<'a, S: System>(
     alloc: Global,
     system: &S,
     task: Task,
     names: &[&'a str],
-    empty: &mut Vec<&'a str>,
+    readings: &mut Vec<Reading<'a>>,
     refused: &mut Vec<&'a str>,
 ) -> Result<Status, Stop<'a>>
     requires budget { HasBudget (settings_of task) }
-    requires none { empty.old.items ≡ [] }
+    requires none { readings.old.items ≡ [] }
     requires unrefused { refused.old.items ≡ [] }
     ensures reported { AreReported S.words S.File.remaining S.Commands.remaining system.now S.Out.contents (λ several. IsTaskRun (task_among several task.entry))
-        (λ several. heading_of (task_among several task.entry)) (map (λ n. n.now) names.now) result }
-    ensures named { AreAmong (map (λ n. n.now) names.now) empty.new.items }
+        (λ several. format_of (task_among several task.entry)) (map (λ n. n.now) names.now) result }
+    ensures named { AreReadingsOf (map (λ n. n.now) names.now) readings.new.items }
     ensures noted { AreAmong (map (λ n. n.now) names.now) refused.new.items }
 {
     let mut out = Counted::new(system.out());
     let is_named = 1 < names.len();
     let mut worst = Status::Yes;
     for name in names {
-        let mut is_empty = false;
+        let mut seen = Seen {
+            is_empty: false,
+            passed: PassedOver::none(),
+            is_order_refused: false,
+        };
         let task = task.among(is_named);
-        let status = report(alloc, system, task, name, is_named, &mut out, &mut is_empty)?;
+        let status = report(alloc, system, task, name, is_named, &mut out, &mut seen)?;
         worst = worse(worst, status);
-        keep_if(is_empty, name, empty);
-        keep_if(is_noted(&task, name, status), name, refused);
+        keep_if(is_noted(&task, name, status, &seen), name, refused);
+        let reading = Reading {
+            name: *name,
+            is_empty: seen.is_empty,
+            passed: seen.passed,
+        };
+        keep_reading(reading, readings);
     }
     Ok(worst)
 }

@@ -3,7 +3,7 @@ ghost use Rattle.std.specs.Prelude.{IfSome, IfNone};
 ghost use Rattle.lin_program.specs.Exit.{SystemWords};
 
 use clap::Error;
-use lin_formats::RunFault;
+use lin_formats::{PassedOver, RunFault};
 use std::io::{Read, Write};
 
 /// What the program tells beside what its runs write.
@@ -15,8 +15,12 @@ pub enum Message<'a> {
     NotOpened(&'a str),
     /// No event of a client was read from the file of this name.
     NothingRead(&'a str),
+    /// These maps of the file of this name were passed over, and no event of a client was read from it, or one was.
+    PassedOver(&'a str, &'a PassedOver, bool),
     /// The file of this name is refused, by these words.
     Refused(&'a str, &'a str),
+    /// No event of the file of this name has the key that is asked about, as these words tell, which spell keys as the file does.
+    NoKey(&'a str, &'a [u8]),
     /// Why a run ended early.
     Fault(RunFault),
     /// Memory was refused before there was a command line.
@@ -46,6 +50,10 @@ pub trait System {
     fn open(&self, path: &str) -> Option<Self::File>
         ensures some { IfSome result (words.opens self.now path.now) }
         ensures none { IfNone result (words.lacks self.now path.now) };
+
+    /// Opens the file of that name once more, where it is a plain one: another may give nothing again, and opening it may wait for whoever writes there.
+    fn reopen(&self, path: &str) -> Option<Self::File>
+        ensures { IfSome result (words.reopens self.now path.now) };
 
     /// Standard input.
     fn commands(&self) -> Self::Commands

@@ -2,13 +2,15 @@
 ghost use Rattle.std.specs.Prelude.{◌≡◌, ◌<◌, ◌++◌, OnOk};
 ghost use Rattle.lin_formats.specs.Devices.{device_of, failures_of, Counts};
 ghost use Rattle.lin_formats.specs.Verdicts.{is_write_failed};
-ghost use Rattle.lin_program.specs.Tasks.{HasBudget, IsTaskRun, format_among, heading_in, heading_of, report_format as format_of, settings_of, task_among};
+ghost use Rattle.lin_program.specs.Tasks.{HasBudget, IsTaskRun, answered as answered_by, format_among, heading_in, lack_line, settings_of, task_among};
+ghost use Rattle.lin_program.specs.Tasks as said;
 
+use crate::refused_orders::verify_text;
 use crate::words::Format;
-use lin_formats::{Counted, RunFault, Settings, Status, verify};
-use lin_json::put_file_front;
+use lin_formats::{Counted, RunFault, Settings, Status};
+use lin_json::{put_file_front, put_unopened};
 use lin_names::Said;
-use lin_report::{Question, check, draw, explain};
+use lin_report::{Question, RunEnding, check, draw, explain_or_refuse};
 use std::alloc::{AllocError, Global};
 use std::io::{Read, Write};
 
@@ -36,13 +38,13 @@ impl<'a> Task<'a> {
         }
     }
 
-    /// Puts last what names a file in front of what is written of it.
-    pub fn put_heading(&self, text: &mut Vec<u8>, name: &str) -> Result<(), AllocError>
-        ensures { OnOk result (text.new.items ≡ text.old.items ++ heading_of self.now name.now) }
+    /// How what is found is printed, as far as it tells how a file is named.
+    pub fn format(&self) -> lin_report::ReportFormat
+        ensures { result ≡ said.format_of self.now }
     {
         match self {
-            Task::Check(_, format) => put_heading_in(text, *format, name),
-            _ => put_heading_in(text, lin_report::ReportFormat::Text, name),
+            Task::Check(_, format) => *format,
+            _ => lin_report::ReportFormat::Text,
         }
     }
 
@@ -54,7 +56,7 @@ impl<'a> Task<'a> {
         alloc: Global,
         file: &mut Counted<R>,
         out: &mut Counted<W>,
-    ) -> Result<Status, RunFault>
+    ) -> Result<RunEnding, RunFault>
         requires budget { HasBudget (settings_of self) }
         requires reads { failures_of file.old < u64.MAX }
         requires writes { failures_of out.old < u64.MAX }
@@ -63,11 +65,26 @@ impl<'a> Task<'a> {
         ensures counts { Counts (is_write_failed result) (failures_of out.old) (failures_of out.new) }
     {
         match self {
-            Task::Check(settings, format) => check(alloc, settings, format, file, out),
-            Task::Explain(settings, question) => explain(alloc, settings, question, file, out),
+            Task::Check(settings, format) => answered(check(alloc, settings, format, file, out)),
+            Task::Explain(settings, question) => {
+                explain_or_refuse(alloc, settings, question, file, out)
+            }
             Task::Draw(settings, key, last) => draw(alloc, settings, key, last, file, out),
-            Task::Verify(settings, order) => verify(alloc, settings, file, order, out),
+            Task::Verify(settings, order) => {
+                answered(verify_text(alloc, settings, order, file, out))
+            }
         }
+    }
+}
+
+/// The outcome of a run that asks about no key.
+fn answered(outcome: Result<Status, RunFault>) -> Result<RunEnding, RunFault>
+    ensures answered { result ≡ answered_by outcome }
+    ensures failed { is_write_failed result ≡ is_write_failed outcome }
+{
+    match outcome {
+        Ok(status) => Ok(RunEnding::Answered(status)),
+        Err(fault) => Err(fault),
     }
 }
 
@@ -82,7 +99,7 @@ fn among(several: bool, format: lin_report::ReportFormat) -> lin_report::ReportF
 }
 
 /// Puts last what names a file: a line, or the beginning of a map.
-fn put_heading_in(
+pub fn put_heading(
     text: &mut Vec<u8>,
     format: lin_report::ReportFormat,
     name: &str,
@@ -98,9 +115,18 @@ fn put_heading_in(
     Ok(())
 }
 
+/// Puts last what is written of a file that can't be opened where reports are maps that name their files.
+pub fn put_lack(alloc: Global, text: &mut Vec<u8>, name: &str) -> Result<(), AllocError>
+    ensures { OnOk result (text.new.items ≡ text.old.items ++ lack_line name.now) }
+{
+    put_unopened(alloc, text, name.as_bytes())?;
+    text.push(b'\n')?;
+    Ok(())
+}
+
 /// The way of printing that a command line names.
 pub fn report_format(format: Format) -> lin_report::ReportFormat
-    ensures { result ≡ format_of format }
+    ensures { result ≡ said.report_format format }
 {
     match format {
         Format::Text => lin_report::ReportFormat::Text,

@@ -12,7 +12,7 @@ use Rattle.lin_events.specs.declared.events.Event.{Event}
 use Rattle.lin_events.specs.Operations.{IsOk}
 use Rattle.lin_order.specs.Orders.{IsBefore, IsCall}
 use Rattle.lin_order.specs.lemmas.OneEnd.{no_call}
-use Rattle.lin_certificates.specs.BagConflicts.{AtLeast, AtMost}
+use Rattle.lin_certificates.specs.Numbers.{AtLeast, AtMost}
 use Rattle.lin_queues.specs.Ranks.{RanksBelow, RanksFrom}
 use Rattle.lin_queues.specs.inner.Returning.{IsReturnedBy}
 

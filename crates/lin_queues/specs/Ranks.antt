@@ -11,7 +11,7 @@ use Rattle.lin_events.specs.Operations.{IsOk, IsFailed}
 use Rattle.lin_objects.specs.declared.kinds.Kind.TheVariants.{Fifo}
 use Rattle.lin_order.specs.Orders.{IsBefore, IsCall}
 use Rattle.lin_order.specs.Linearizable.{IsLinearizableAs}
-use Rattle.lin_certificates.specs.BagConflicts.{AtLeast, AtMost}
+use Rattle.lin_certificates.specs.Numbers.{AtLeast, AtMost}
 
 abbrev pub IsEnqueue : List Event → ℕ → Type 0
 IsEnqueue h at = (item : Item) × IsCall h at (Enqueue item)

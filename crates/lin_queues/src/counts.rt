@@ -1,6 +1,6 @@
 //! How many operations of a queue are known to have put something in, or taken something out, and how many may have.
 ghost use Rattle.std.specs.Prelude.{◌<◌, ◌≡◌, ◌≤◌, IsTrue, false, length};
-ghost use Rattle.lin_certificates.specs.BagConflicts.{AtLeast, AtMost};
+ghost use Rattle.lin_certificates.specs.Numbers.{AtLeast, AtMost};
 ghost use Rattle.lin_order.specs.Orders.{IsBefore};
 ghost use Rattle.lin_order.specs.Tables.{IsNextTable};
 ghost use Rattle.lin_queues.specs.Ranks.{HasPut, HasTaken, HasTakenItem, MayPut, MayPutItem, MayTake, RanksFrom};

@@ -2,13 +2,13 @@
 //! it returns, or when an operation returns that needs what it leaves. Then it stands last, or in a gap before an update that was placed
 //! while it was open. Whatever it finds is checked; that it finds an order isn't promised.
 ghost use Rattle.std.specs.Prelude.{◌≡◌, ◌≤◌};
-ghost use Rattle.lin_events.specs.Meters.{ticked};
 
 use crate::acts::{Act, Acts, Waiting};
 use crate::drafts::{Draft, DraftSpot, DraftStep, Gap, count_as_wide, widest};
 use crate::lines::LinkedLine;
 use crate::paths::paths;
 use crate::pool::{Offer, OpenReturn, ReturnPool, has_operation};
+use crate::tries::tick_tries;
 use crate::zones::register_failure;
 use lin_events::{Event, Meter, OutOfMemory, Val};
 use lin_order::Placed;
@@ -170,7 +170,7 @@ impl<'a> Attempt<'a> {
     ) -> Result<(), OutOfMemory> {
         for draft in drafts.iter_mut() {
             if open.act == Act::Read(draft.held) && !draft.has(open) {
-                self.step(draft, open.operation, DraftSpot::Behind(draft.last))?;
+                self.step(draft, open.operation, DraftSpot::behind(draft.last))?;
                 draft.note(open.operation, open.act)?;
             }
         }
@@ -214,7 +214,7 @@ impl<'a> Attempt<'a> {
                 && !draft.has(open)
             {
                 let open = *open;
-                self.step(draft, open.operation, DraftSpot::Behind(update))?;
+                self.step(draft, open.operation, DraftSpot::behind(update))?;
                 draft.note(open.operation, open.act)?;
             }
         }
@@ -255,7 +255,7 @@ impl<'a> Attempt<'a> {
         if let Some(old) = draft.gaps.get_mut(at) {
             old.held = value;
         }
-        self.step(draft, offer.operation, DraftSpot::Before(gap.next))?;
+        self.step(draft, offer.operation, DraftSpot::before(gap.next))?;
         self.tell(draft, value, offer.operation, gap.until)
     }
 
@@ -541,18 +541,6 @@ fn placed(alloc: Global, acts: &Acts, operations: &[usize]) -> Result<Vec<Placed
         }
     }
     Ok(order)
-}
-
-/// So many calls more were tried.
-fn tick_tries(meter: &mut Meter, count: usize)
-    ensures counted { meter.new ≡ record meter.old { tries = ticked meter.old.tries count } }
-    ensures risen { meter.old.tries ≤ meter.new.tries }
-{
-    let before = meter.tries();
-    for _ in 0..count {
-        meter.tick_try();
-    }
-    prove!(before <= meter.tries());
 }
 
 /// An order of the operations that goes on from the first one, if a search finds one that keeps so many beginnings.

@@ -23,9 +23,9 @@ pub enum DraftSpot {
     /// Behind all others.
     Last,
     /// Before this update.
-    Before(usize),
+    Before(u32),
     /// Behind this update, and the reads that were put there.
-    Behind(usize),
+    Behind(u32),
 }
 
 /// One operation more in an order.
@@ -72,6 +72,23 @@ fn renew<T: Copy>(elements: &mut Vec<T>, others: &[T]) -> Result<(), OutOfMemory
     elements.clear();
     elements.extend_from_slice(others)?;
     Ok(())
+}
+
+impl DraftSpot {
+    /// Behind the update, and the reads that were put there.
+    pub fn behind(update: usize) -> DraftSpot {
+        DraftSpot::Behind(named(update))
+    }
+
+    /// Before the update.
+    pub fn before(update: usize) -> DraftSpot {
+        DraftSpot::Before(named(update))
+    }
+}
+
+/// The operation's name in a step. No operation has the last one.
+fn named(operation: usize) -> u32 {
+    u32::try_from(operation).unwrap_or(u32::MAX)
 }
 
 impl Draft {

@@ -1,7 +1,6 @@
-//! A search for operations of a register that conflict, one event after another. Whatever it finds is checked; that it finds something isn't
-//! promised.
+//! A search for a certificate of a register, one event after another. Whatever it finds is checked; that it finds something isn't promised.
 use crate::acts::{Act, Acts, act_of};
-use lin_certificates::{Block, Conflict};
+use lin_certificates::Certificate;
 use lin_events::{Body, Event, Item, OutOfMemory, Val};
 use std::alloc::Global;
 use std::collections::HashMap;
@@ -140,18 +139,13 @@ impl Zone {
         }
     }
 
-    /// The operations of a value that one update leaves.
-    fn block(self, item: Item) -> Option<Block> {
+    /// Of the operations of a value that one update leaves the one that returned first, and the one that was invoked last.
+    fn block(self) -> Option<(usize, usize)> {
         if self.count != 1 {
             return None;
         }
         let (early, _) = self.early?;
-        Some(Block {
-            value: Val::Item(item),
-            update: self.sum,
-            early,
-            late: self.late.max(self.sum),
-        })
+        Some((early, self.late.max(self.sum)))
     }
 
     /// Whether each of the zones begins before the other ends.
@@ -226,11 +220,16 @@ impl Search {
     }
 
     /// It failed.
-    fn failed(&mut self, update: usize, value: Val) -> Result<Option<Conflict>, OutOfMemory> {
+    fn failed(&mut self, update: usize, value: Val) -> Result<Option<Certificate>, OutOfMemory> {
         let zone = self.zones.get(value).failed(update);
         self.zones.put(value, zone)?;
-        let conflict = self.overwriting(value).or(unwritten(zone, value));
-        Ok(conflict.or(self.crossing(value)))
+        Ok(self.certificate(self.stale(value), value))
+    }
+
+    /// A certificate of operations that touch the value, unless there is this one.
+    fn certificate(&mut self, stale: Option<Certificate>, value: Val) -> Option<Certificate> {
+        let found = stale.or(unwritten(self.zones.get(value), value));
+        found.or(self.crossing(value))
     }
 
     /// An operation returned.
@@ -239,15 +238,13 @@ impl Search {
         operation: usize,
         act: Act,
         at: usize,
-    ) -> Result<Option<Conflict>, OutOfMemory> {
+    ) -> Result<Option<Certificate>, OutOfMemory> {
         self.note(operation, act, at)?;
-        let held = act.held();
-        let conflict = match act.found() {
-            Some(value) => self.overwriting(value),
+        let stale = match act.found() {
+            Some(value) => self.stale(value),
             None => None,
         };
-        let conflict = conflict.or(unwritten(self.zones.get(held), held));
-        Ok(conflict.or(self.crossing(held)))
+        Ok(self.certificate(stale, act.held()))
     }
 
     /// Notes that an operation returned.
@@ -283,7 +280,7 @@ impl Search {
     }
 
     /// What the last operation that needed the value can't have found any more.
-    fn overwriting(&self, value: Val) -> Option<Conflict> {
+    fn stale(&self, value: Val) -> Option<Certificate> {
         let zone = self.zones.get(value);
         let operation = zone.need?;
         if zone.open > 0 {
@@ -293,7 +290,7 @@ impl Search {
         if zone.count > 0 && zone.end >= over {
             return None;
         }
-        Some(Conflict::Overwritten {
+        Some(Certificate::Stale {
             operation,
             value,
             over,
@@ -302,12 +299,12 @@ impl Search {
     }
 
     /// A value whose operations conflict with those of this one.
-    fn crossing(&mut self, value: Val) -> Option<Conflict> {
+    fn crossing(&mut self, value: Val) -> Option<Certificate> {
         let Val::Item(item) = value else {
             return None;
         };
         let zone = self.zones.get(value);
-        let block = zone.block(item)?;
+        let (first, last) = zone.block()?;
         let (_, end) = zone.early?;
         for (other, at) in self.recent.iter().rev() {
             self.steps = self.steps.saturating_add(1);
@@ -317,9 +314,15 @@ impl Search {
             if let Some(found) = self.zones.items.get(other)
                 && *other != item
                 && zone.crosses(*found)
-                && let Some(crossed) = found.block(*other)
+                && let Some((early, late)) = found.block()
             {
-                return Some(Conflict::Crossed(block, crossed));
+                return Some(Certificate::Crossed {
+                    value: Val::Item(*other),
+                    item,
+                    early: first,
+                    late,
+                    back: Some((early, last)),
+                });
             }
         }
         None
@@ -327,10 +330,10 @@ impl Search {
 }
 
 /// An operation that found the value, if no update leaves it.
-fn unwritten(zone: Zone, value: Val) -> Option<Conflict> {
+fn unwritten(zone: Zone, value: Val) -> Option<Certificate> {
     let (operation, _) = zone.early?;
     match value {
-        Val::Item(_) if zone.count == 0 => Some(Conflict::Unwritten { operation, value }),
+        Val::Item(item) if zone.count == 0 => Some(Certificate::Unwritten { operation, item }),
         _ => None,
     }
 }
@@ -343,13 +346,13 @@ fn left_at(events: &[Event], at: usize) -> Option<Val> {
     }
 }
 
-/// Operations that conflict at the event, and didn't before.
+/// A certificate of the events up to and with this one, if none was found before.
 fn found_at(
     search: &mut Search,
     events: &[Event],
     acts: &Acts,
     at: usize,
-) -> Result<Option<Conflict>, OutOfMemory> {
+) -> Result<Option<Certificate>, OutOfMemory> {
     search.before.push(search.seen)?;
     if let Some(value) = left_at(events, at) {
         search.invoked(at, value)?;
@@ -367,17 +370,17 @@ fn found_at(
     Ok(None)
 }
 
-/// Operations that conflict, in the shortest beginning that has such ones, and the place of its last event.
+/// A certificate of the shortest beginning in which one is found, and the place of its last event.
 pub fn register_failure(
     alloc: Global,
     events: &[Event],
-) -> Result<Option<(usize, Conflict)>, OutOfMemory> {
+) -> Result<Option<(usize, Certificate)>, OutOfMemory> {
     let acts = Acts::behind(alloc, &[], events)?;
     let most = acts.len().saturating_mul(STEPS).saturating_add(FREE);
     let mut search = Search::new(alloc);
     for at in 0..acts.len() {
-        if let Some(conflict) = found_at(&mut search, events, &acts, at)? {
-            return Ok(Some((at, conflict)));
+        if let Some(certificate) = found_at(&mut search, events, &acts, at)? {
+            return Ok(Some((at, certificate)));
         }
         if search.steps > most {
             return Ok(None);

@@ -1,6 +1,7 @@
 pub mod CommandLines
 pub mod OfWork
 pub mod Keys
+pub mod AskedKeys
 pub mod ObjectFindings
 pub mod Maps
 pub mod OneObject

@@ -4,9 +4,7 @@ use Rattle.std.specs.Io.KnownBytes.{IsAtEnd}
 use Rattle.lin_events.specs.declared.events.Event.{Event}
 use Rattle.lin_events.specs.declared.items.Item.{Item}
 use Rattle.lin_history.specs.Reading.{IsReading, Reading}
-use Rattle.lin_names.specs.Names.{AgreesWith, AreEachOnce, Numbering}
-use Rattle.lin_names.specs.Spelled.{numbered, seen}
-use Rattle.lin_names.specs.declared.said.Said.{Said}
+use Rattle.lin_names.specs.Names.{AreEachOnce}
 use Rattle.lin_answers.specs.Answers.{IsAnswer, verdict_of}
 use Rattle.lin_answers.specs.Edits.{Present}
 use Rattle.lin_answers.specs.Keys.{AreKeys}
@@ -34,7 +32,9 @@ use Rattle.lin_explain.specs.declared.parts.Parts.{Parts}
 use Rattle.lin_explain.specs.declared.telling.Asked.{Asked}
 use Rattle.lin_json.specs.Explanations.{explanation_json, refusal_json}
 use Rattle.lin_report.specs.Failing.{first_failing}
-use Rattle.lin_report.specs.Reports.{AreFindings, HasFound, IsPrintRun, answer_status, answer_text, opened, told_text}
+use Rattle.lin_report.specs.AskedKeys.{HasEvents, IsAskedRun, IsKey}
+use Rattle.lin_report.specs.Reports.{AreFindings, HasFound, Printing, answer_status, answer_text, opened, told_text}
+use Rattle.lin_report.specs.declared.asked_keys.RunEnding.{RunEnding}
 use Rattle.lin_report.specs.declared.beside.Beside.{Beside}
 use Rattle.lin_report.specs.declared.explaining.Question.{Question}
 use Rattle.lin_report.specs.declared.failing.Failing.{Failing}
@@ -178,24 +178,25 @@ refused_told Text marked refusal hint = refusal_lines marked refusal hint
 refused_told Json marked refusal hint = refused_line marked refusal hint
 refused_told Rest marked refusal hint = drop 1 (refused_line marked refusal hint)
 
--- the key that is said, by each numbering that agrees with these names; none where none is
-abbrev pub IsKey : List (List ℕ) → Option Said → Option Item → Type 0
-IsKey names said key = (number : Numbering) → AgreesWith names number → key ≡ option_map (λ s. numbered number (seen s)) said
-
 abbrev pub asked_in : Settings → Question → Option Item → Asked
 asked_in settings question key = record { key = key; with_order = question.with_order; keyed = settings.keyed }
 
 -- What is right to print of the bytes of a file, with the status: why they are refused, and where; or an explanation of the history that they
--- are, for the object of the key that is said, the whole, or each object that isn't a yes. The places are those that the bytes have.
-abbrev pub IsRightExplanation : Settings → Question → List ℕ → Option (List ℕ) → List ℕ → Status → Type 0
-IsRightExplanation settings question bytes left text status = (names : List (List ℕ)) × AreEachOnce names
+-- are, for the object of the key that is said, the whole, or each object that isn't a yes, where this is so of the events and the key. The places are
+-- those that the bytes have.
+abbrev pub IsExplanationWhere : (List Event → Option Item → Type 0) → Settings → Question → Printing
+IsExplanationWhere is_so settings question bytes left text status = (names : List (List ℕ)) × AreEachOnce names
     × (marked : Marked) × ((m : Reading) → IsReading settings.keyed names m → Marks m marked bytes) × (marked.keyed ≡ settings.keyed)
     × (((refusal : Refusal) × AreRefusedFor settings.keyed names settings.at_least bytes refusal × StopsFor refusal left
     × ((hint : List ℕ) × IsHint settings.keyed bytes marked refusal hint × (text ≡ refused_told question.format marked refusal hint)) × (status ≡ ends.Refused))
     ⊎ ((events : List Event) × IsEnough settings.keyed names settings.at_least bytes events × IsAtEnd left × (key : Option Item) × IsKey names question.key key
-    × IsToldFor names question.all_keys question.format (opened settings events) (asked_in settings question key) (Some marked.places) text status))
+    × is_so events key × IsToldFor names question.all_keys question.format (opened settings events) (asked_in settings question key) (Some marked.places) text status))
 
--- what a run reads and writes, and how it ends
-abbrev pub IsExplainRun : Settings → Question → Option (List ℕ) → Option (List ℕ) → Option (List ℕ) → Option (List ℕ) → Result Status RunFault → Type 0
+-- an explanation, also for a key that no event has
+abbrev pub IsRightExplanation : Settings → Question → Printing
+IsRightExplanation settings question = IsExplanationWhere (λ events key. Unit {0}) settings question
+
+-- What a run reads and writes, and how it ends. It explains the object of a key only where an event has the key.
+abbrev pub IsExplainRun : Settings → Question → Option (List ℕ) → Option (List ℕ) → Option (List ℕ) → Option (List ℕ) → Result RunEnding RunFault → Type 0
 IsExplainRun settings question old new before after result =
-    IsPrintRun (IsRightExplanation settings question) old new before after result
+    IsAskedRun (IsExplanationWhere HasEvents settings question) settings question.key old new before after result

@@ -4,6 +4,7 @@ pub mod MapCommands
 pub mod Pulls
 pub mod Failing
 pub mod Reports
+pub mod AskedKeys
 pub mod Explanations
 pub mod Pictures
 pub mod Runs

@@ -17,8 +17,9 @@ use Rattle.lin_texts.specs.declared.status.Status.{Status}
 use Rattle.lin_texts.specs.declared.status.Status.TheVariants as ends
 use Rattle.lin_draw.specs.Pictures.{IsSvg}
 use Rattle.lin_explain.specs.Explained.{scope_of}
-use Rattle.lin_report.specs.Explanations.{IsKey}
-use Rattle.lin_report.specs.Reports.{IsPrintRun, answer_status, answer_text, is_ill_formed, opened, refusal_line}
+use Rattle.lin_report.specs.AskedKeys.{HasEvents, IsAskedRun, IsKey}
+use Rattle.lin_report.specs.Reports.{answer_status, answer_text, is_ill_formed, opened, refusal_line}
+use Rattle.lin_report.specs.declared.asked_keys.RunEnding.{RunEnding}
 use Rattle.lin_report.specs.declared.formats.ReportFormat.TheVariants.{Text}
 
 -- an answer that is right, for the object of the key or the whole; of a history that isn't well-formed its line is all that is printed
@@ -30,13 +31,13 @@ pub record IsDrawing (now : Present) (key : Option Item) (text : List ℕ) (stat
   pub status_is : status ≡ answer_status (verdict_of answer)
 
 -- What is right to print of the bytes of a file, with the status: why they are refused; or a drawing of the history that they are, for the
--- object of the key that is said or the whole.
+-- object of the key that is said, which an event has, or the whole.
 abbrev pub IsRightDrawing : Settings → Option Said → List ℕ → Option (List ℕ) → List ℕ → Status → Type 0
 IsRightDrawing settings said bytes left text status = (names : List (List ℕ)) × AreEachOnce names
     × (((refusal : Refusal) × AreRefusedFor settings.keyed names settings.at_least bytes refusal × StopsFor refusal left × (text ≡ refusal_line Text refusal) × (status ≡ ends.Refused))
     ⊎ ((events : List Event) × IsEnough settings.keyed names settings.at_least bytes events × IsAtEnd left × (key : Option Item) × IsKey names said key
-    × IsDrawing (opened settings events) key text status))
+    × HasEvents events key × IsDrawing (opened settings events) key text status))
 
 -- what a run reads and writes, and how it ends
-abbrev pub IsDrawRun : Settings → Option Said → Option (List ℕ) → Option (List ℕ) → Option (List ℕ) → Option (List ℕ) → Result Status RunFault → Type 0
-IsDrawRun settings said old new before after result = IsPrintRun (IsRightDrawing settings said) old new before after result
+abbrev pub IsDrawRun : Settings → Option Said → Option (List ℕ) → Option (List ℕ) → Option (List ℕ) → Option (List ℕ) → Result RunEnding RunFault → Type 0
+IsDrawRun settings said old new before after result = IsAskedRun (IsRightDrawing settings said) settings said old new before after result

@@ -4,6 +4,7 @@ use Rattle.std.specs.Io.KnownBytes.{Appends, Consumes, IsAtEnd, Keeps}
 use Rattle.std.specs.List.{flat_map, join_by}
 use Rattle.lin_events.specs.declared.events.Event.{Event}
 use Rattle.lin_events.specs.declared.items.Item.{Item}
+use Rattle.lin_history.specs.Counts.{Passed}
 use Rattle.lin_names.specs.Names.{AreEachOnce}
 use Rattle.lin_objects.specs.declared.kinds.Kind.{Kind}
 use Rattle.lin_objects.specs.Kinds.{same_for_all}
@@ -16,7 +17,7 @@ use Rattle.lin_answers.specs.declared.answers.Verdict.{Verdict}
 use Rattle.lin_answers.specs.declared.answers.Verdict.TheVariants.{IllFormed, Yes, No, Undecided}
 use Rattle.lin_texts.specs.Causes.{cause_text}
 use Rattle.lin_formats.specs.VerdictTexts.{refusal_text}
-use Rattle.lin_formats.specs.Histories.{StopsFor}
+use Rattle.lin_formats.specs.Histories.{IsNoted, StopsFor}
 use Rattle.lin_formats.specs.Inputs.{AreRefusedFor, IsEnough}
 use Rattle.lin_texts.specs.Items.{item_text}
 use Rattle.lin_texts.specs.Kinds.{kind_text}
@@ -82,18 +83,18 @@ module _ (names : List (List ℕ)) where
   abbrev pub json_objects : (Item → Kind) → List Finding → List ℕ
   json_objects kinds found = join_by (λ f. json_object (kinds f.key) f) (codes ",") found
 
-  -- The report of a history of so many keys: what is found of its objects, and of the whole. As text there is a line that counts, one for each
+  -- The report of a history of so many keys, beside which so many maps are passed over: what is found of its objects, and of the whole. As text there is a line that counts, one for each
   -- object, and one for the whole; as JSON one line for all, which names the object that fails first where the whole is undecided and one is a no,
   -- or what follows the brace that opens this line.
-  abbrev pub json_report : Present → ℕ → List Finding → Verdict → List ℕ
-  json_report now keys found whole =
-      checked_json names (failing_key whole found) (answer_status whole) (answer_text whole) (length now.history) (json_objects (kinds_in now) found) ++ codes "\n"
+  abbrev pub json_report : ℕ → Present → ℕ → List Finding → Verdict → List ℕ
+  json_report passed now keys found whole =
+      checked_json names (failing_key whole found) (answer_status whole) (answer_text whole) (length now.history) passed (json_objects (kinds_in now) found) ++ codes "\n"
 
-  abbrev pub report_text : ReportFormat → Present → ℕ → List Finding → Verdict → List ℕ
-  report_text Text now keys found whole =
+  abbrev pub report_text : ReportFormat → ℕ → Present → ℕ → List Finding → Verdict → List ℕ
+  report_text Text passed now keys found whole =
       counts_text (length now.history) keys ++ lines_text (kinds_in now) found ++ codes "whole: " ++ (answer_text whole ++ codes "\n")
-  report_text Json now keys found whole = json_report now keys found whole
-  report_text Rest now keys found whole = drop 1 (json_report now keys found whole)
+  report_text Json passed now keys found whole = json_report passed now keys found whole
+  report_text Rest passed now keys found whole = drop 1 (json_report passed now keys found whole)
 
   -- What is found of a history: of each of its keys, in the order of print, what is found of its object, and what is found of the whole. Of a
   -- history that isn't well-formed no object is named.
@@ -105,13 +106,13 @@ module _ (names : List (List ℕ)) where
   abbrev pub HasFound : Present → Findings → Type 0
   HasFound now f = (keys : List Item) × (f.keys ≡ length keys) × AreFound now keys f.objects.items f.whole
 
-  -- what is right to report, and the status of a run that ends with it: what is found of the history, and of the whole
-  pub record IsReport (format : ReportFormat) (now : Present) (text : List ℕ) (status : Status) : Type 0 where
+  -- what is right to report, where so many maps are passed over, and the status of a run that ends with it: what is found of the history, and of the whole
+  pub record IsReport (format : ReportFormat) (passed : ℕ) (now : Present) (text : List ℕ) (status : Status) : Type 0 where
     pub keys : List Item
     pub found : List Finding
     pub whole : Verdict
     pub are_found : AreFound now keys found whole
-    pub says : text ≡ report_text format now (length keys) found whole
+    pub says : text ≡ report_text format passed now (length keys) found whole
     pub status_is : status ≡ answer_status whole
 
 -- these events, with the kind and the budget of the settings
@@ -129,7 +130,8 @@ refusal_line Rest refusal = drop 1 (answer_json ends.Refused (refusal_text refus
 abbrev pub IsRightReport : Settings → ReportFormat → List ℕ → Option (List ℕ) → List ℕ → Status → Type 0
 IsRightReport settings format bytes left text status = (names : List (List ℕ)) × AreEachOnce names
     × (((refusal : Refusal) × AreRefusedFor settings.keyed names settings.at_least bytes refusal × StopsFor refusal left × (text ≡ refusal_line format refusal) × (status ≡ ends.Refused))
-    ⊎ ((events : List Event) × IsEnough settings.keyed names settings.at_least bytes events × IsAtEnd left × IsReport names format (opened settings events) text status))
+    ⊎ ((events : List Event) × IsEnough settings.keyed names settings.at_least bytes events × IsAtEnd left
+    × ((is_empty : Bool) × (passed : Passed) × IsNoted settings.keyed names bytes is_empty passed × IsReport names format passed.count (opened settings events) text status)))
 
 -- what is right to print of bytes, of which so much is left, and the status
 abbrev pub Printing : Type 1

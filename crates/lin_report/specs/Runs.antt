@@ -111,7 +111,7 @@ module _ (names : List (List ℕ)) where
       × (text ≡ answer_text verdict ++ codes "\n") × (status ≡ Some (answer_status verdict))
   IsCommandReply keyed (Order scope) before after text status = (after ≡ before) × (answer : Answer) × IsAnswer before scope answer
       × (text ≡ order_answer_text answer ++ codes "\n") × (status ≡ Some (answer_status (verdict_of answer)))
-  IsCommandReply keyed Report before after text status = (after ≡ before) × (whole : Status) × IsReport names Text before text whole × (status ≡ Some whole)
+  IsCommandReply keyed Report before after text status = (after ≡ before) × (whole : Status) × IsReport names Text 0 before text whole × (status ≡ Some whole)
   IsCommandReply keyed (Refute key) before after text status = (after ≡ before) × IsRefuteReply before key text status
   IsCommandReply keyed (Explain scope) before after text status = (after ≡ before) × IsExplainReply names keyed before scope text status
   IsCommandReply keyed Work before after text status = (after ≡ before) × ((m : Meter) × (text ≡ work_text m ++ codes "\n")) × (status ≡ None)

@@ -26,20 +26,21 @@ pub struct Answered {
     pub status: Status,
 }
 
-/// A report of these events.
+/// A report of these events, beside which so many maps were passed over.
 fn report_of(
     alloc: Global,
     settings: Settings,
     format: ReportFormat,
     names: &Names,
     events: Vec<Event>,
+    passed: u64,
 ) -> Result<Answered, OutOfMemory>
     requires budget { (1 ≤ settings.budget) × (settings.budget ≤ 1000000) }
     requires few { length events.items ≤ limit }
-    ensures { IfOk result (λ answered. IsReport names.now format (opened settings events.items) answered.text.items answered.status) }
+    ensures { IfOk result (λ answered. IsReport names.now format passed (opened settings events.items) answered.text.items answered.status) }
 {
     let mut session = session_of(alloc, settings, events)?;
-    let (text, status) = report(alloc, &mut session, names, format)?;
+    let (text, status) = report(alloc, &mut session, names, format, passed)?;
     Ok(Answered { text, status })
 }
 
@@ -93,7 +94,10 @@ fn find<R: Read>(
     let history = read_history(alloc, settings.keyed, settings.at_least, file, &mut names)?;
     names_are_apart(&names);
     match history {
-        History::Whole(events) => Ok(report_of(alloc, settings, format, &names, events)?),
+        History::Whole(events) => {
+            let passed = file.passed().count();
+            Ok(report_of(alloc, settings, format, &names, events, passed)?)
+        }
         History::Refused(refusal) => Ok(refused(alloc, format, refusal)?),
     }
 }

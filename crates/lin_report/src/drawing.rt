@@ -7,10 +7,12 @@ ghost use Rattle.lin_formats.specs.Inputs.{limit};
 ghost use Rattle.lin_formats.specs.Verdicts.{is_write_failed, IsReadTooFar};
 ghost use Rattle.lin_report.specs.Pictures.{IsDrawing, IsDrawRun, IsRightDrawing};
 ghost use Rattle.lin_draw.specs.Pictures.{IsSvg};
-ghost use Rattle.lin_report.specs.Reports.{IsPrinted, is_ill_formed as is_ill_formed_in, opened};
+ghost use Rattle.lin_report.specs.inner.Asking.{IsFound};
+ghost use Rattle.lin_report.specs.Reports.{is_ill_formed as is_ill_formed_in, opened};
 ghost use Rattle.lin_explain.specs.Explained.{scope_of as scope_for};
 
 use crate::answers::{is_ill_formed, status_of, told_words, verdict_of};
+use crate::asked_keys::{Found, RunEnding, absence_of};
 use crate::checks::{Answered, refused};
 use crate::explaining::{item_of, scope_of, told_of};
 use crate::formats::ReportFormat;
@@ -19,7 +21,7 @@ use lin_answers::{Answer, Scope};
 use lin_draw::{Orders, Wanted, picture_with_places};
 use lin_events::{Event, Item, OutOfMemory};
 use lin_explain::Asked;
-use lin_formats::{Counted, History, Places, RunFault, Settings, Status, read_placed, write_whole};
+use lin_formats::{Counted, History, Places, RunFault, Settings, read_placed, write_whole};
 use lin_names::{Names, Said};
 use lin_objects::Kind;
 use lin_order::Placed;
@@ -111,17 +113,17 @@ fn drawing_of(
     })
 }
 
-/// What is printed of a file.
+/// What is found of a file.
 fn find<R: Read>(
     alloc: Global,
     settings: Settings,
     key: Option<Said>,
     last: Option<u32>,
     file: &mut Counted<R>,
-) -> Result<Answered, RunFault>
+) -> Result<Found, RunFault>
     requires budget { (1 ≤ settings.budget) × (settings.budget ≤ 1000000) }
     requires reads { failures_of file.old < u64.MAX }
-    ensures found { IfOk result (λ answered. IsPrinted (IsRightDrawing settings key.entry) (R.remaining (device_of file.old)) (R.remaining (device_of file.new)) answered.text.items answered.status) }
+    ensures found { IfOk result (IsFound (IsRightDrawing settings key.entry) settings key.entry (R.remaining (device_of file.old)) (R.remaining (device_of file.new))) }
     ensures too_much { IsErrOf result RunFault.TooMuch → IsReadTooFar (R.remaining (device_of file.old)) (R.remaining (device_of file.new)) }
     ensures counts { Counts (is_read_failed result) (failures_of file.old) (failures_of file.new) }
     ensures readers { IsErrOf result RunFault.WriteFailed → ⊥ }
@@ -138,16 +140,24 @@ fn find<R: Read>(
     names_are_apart(&names);
     match history {
         History::Whole(events) => {
+            if let Some(words) = absence_of(alloc, &names, key, &events)? {
+                return Ok(Found::NoKey(words));
+            }
             let places = &placed.places;
-            Ok(drawing_of(alloc, settings, key, last, &names, events, places)?)
+            let drawn = drawing_of(alloc, settings, key, last, &names, events, places)?;
+            Ok(Found::Answer(drawn))
         }
-        History::Refused(refusal) => Ok(refused(alloc, ReportFormat::Text, refusal)?),
+        History::Refused(refusal) => {
+            let told = refused(alloc, ReportFormat::Text, refusal)?;
+            Ok(Found::Answer(told))
+        }
     }
 }
 
 /// Draws the history in a file, with what is found of it for the whole or for the object of a key: writes a picture as SVG, and gives the
 /// status. Of a history that isn't well-formed, and of a file that is refused, it writes the line that says so. At most 20 operations are drawn,
-/// or as many as `last` says, however wide that is.
+/// or as many as `last` says, however wide that is. Where no event of a whole history has the key nothing is written, and it is told which keys there
+/// are.
 ///
 /// The file is read as by `check`, which see for what is asked and for errors. Of what is drawn no promise says more than that it is an SVG.
 pub fn draw<R: Read, W: Write>(
@@ -157,7 +167,7 @@ pub fn draw<R: Read, W: Write>(
     last: Option<u32>,
     file: &mut Counted<R>,
     out: &mut Counted<W>,
-) -> Result<Status, RunFault>
+) -> Result<RunEnding, RunFault>
     requires budget { (1 ≤ settings.budget) × (settings.budget ≤ 1000000) }
     requires reads { failures_of file.old < u64.MAX }
     requires writes { failures_of out.old < u64.MAX }
@@ -166,7 +176,11 @@ pub fn draw<R: Read, W: Write>(
     ensures read_counts { Counts (is_read_failed result) (failures_of file.old) (failures_of file.new) }
     ensures write_counts { Counts (is_write_failed result) (failures_of out.old) (failures_of out.new) }
 {
-    let answered = find(alloc, settings, key, last, file)?;
-    write_whole(out, answered.text.as_slice())?;
-    Ok(answered.status)
+    match find(alloc, settings, key, last, file)? {
+        Found::Answer(answered) => {
+            write_whole(out, answered.text.as_slice())?;
+            Ok(RunEnding::Answered(answered.status))
+        }
+        Found::NoKey(words) => Ok(RunEnding::NoKey(words)),
+    }
 }

@@ -5,17 +5,20 @@ ghost use Rattle.lin_formats.specs.Devices.{device_of, failures_of, Counts};
 ghost use Rattle.lin_formats.specs.Histories.{is_read_failed};
 ghost use Rattle.lin_formats.specs.Inputs.{limit};
 ghost use Rattle.lin_formats.specs.Verdicts.{is_write_failed, IsReadTooFar};
-ghost use Rattle.lin_report.specs.Explanations.{IsExplainRun, IsExplanation, IsKey, IsRightExplanation, explanation_text, key_of as key_in, line_count as lines_in, refusal_lines as lines_for, refused_told};
+ghost use Rattle.lin_report.specs.AskedKeys.{HasEvents, IsKey};
+ghost use Rattle.lin_report.specs.inner.Asking.{IsFound};
+ghost use Rattle.lin_report.specs.Explanations.{IsExplainRun, IsExplanation, IsExplanationWhere, explanation_text, key_of as key_in, line_count as lines_in, refusal_lines as lines_for, refused_told};
 ghost use Rattle.lin_explain.specs.Explained.{Explains, scope_of as scope_for};
 ghost use Rattle.lin_explain.specs.Work.{least_steps, most_passes};
 ghost use Rattle.lin_names.specs.Names.{Begins};
 ghost use Rattle.lin_answers.specs.Answers.{IsAnswer, verdict_of as verdict_in};
 ghost use Rattle.lin_session.specs.Sessions.{IsQuestion};
-ghost use Rattle.lin_report.specs.Reports.{IsPrinted, answer_status, opened};
+ghost use Rattle.lin_report.specs.Reports.{answer_status, opened};
 ghost use Rattle.lin_report.specs.Runs.{IsCommandReply};
 ghost use Rattle.lin_report.specs.declared.commands.Command.TheVariants as command;
 
 use crate::answers::{status_of, verdict_of};
+use crate::asked_keys::{Found, RunEnding, absence_of};
 use crate::beside::{Beside, beside_of, whole_words};
 use crate::checks::Answered;
 use crate::each::told_for;
@@ -287,7 +290,7 @@ fn refused_lines(
 }
 
 /// What is told of a file that is refused.
-fn refused(
+pub(crate) fn refused(
     alloc: Global,
     format: ReportFormat,
     refusal: Refusal,
@@ -311,16 +314,16 @@ fn refused(
     })
 }
 
-/// What is printed of a file.
+/// What is found of a file.
 fn find<R: Read>(
     alloc: Global,
     settings: Settings,
     question: Question,
     file: &mut Counted<R>,
-) -> Result<Answered, RunFault>
+) -> Result<Found, RunFault>
     requires budget { (1 ≤ settings.budget) × (settings.budget ≤ 1000000) }
     requires reads { failures_of file.old < u64.MAX }
-    ensures found { IfOk result (λ answered. IsPrinted (IsRightExplanation settings question.entry) (R.remaining (device_of file.old)) (R.remaining (device_of file.new)) answered.text.items answered.status) }
+    ensures found { IfOk result (IsFound (IsExplanationWhere HasEvents settings question.entry) settings question.entry.key (R.remaining (device_of file.old)) (R.remaining (device_of file.new))) }
     ensures too_much { IsErrOf result RunFault.TooMuch → IsReadTooFar (R.remaining (device_of file.old)) (R.remaining (device_of file.new)) }
     ensures counts { Counts (is_read_failed result) (failures_of file.old) (failures_of file.new) }
     ensures readers { IsErrOf result RunFault.WriteFailed → ⊥ }
@@ -341,24 +344,32 @@ fn find<R: Read>(
     names_are_apart(&names);
     match history {
         History::Whole(events) => {
+            if let Some(words) = absence_of(alloc, &names, asked.key, &events)? {
+                return Ok(Found::NoKey(words));
+            }
             let places = &placed.places;
-            Ok(told_for(alloc, settings, question, asked, &names, events, places)?)
+            let told = told_for(alloc, settings, question, asked, &names, events, places)?;
+            Ok(Found::Answer(told))
         }
-        History::Refused(refusal) => Ok(refused(alloc, question.format, refusal, &placed)?),
+        History::Refused(refusal) => {
+            let told = refused(alloc, question.format, refusal, &placed)?;
+            Ok(Found::Answer(told))
+        }
     }
 }
 
 /// Tells why the history in a file is linearizable or not (Herlihy and Wing 1990, section 3), or isn't decided, for the whole or for the
-/// object of a key: writes the answer's line and those of its explanation, or all that in one line of JSON, and gives the status.
+/// object of a key: writes the answer's line and those of its explanation, or all that in one line of JSON, and gives the status. Where no event of a
+/// whole history has the key nothing is written, and it is told which keys there are.
 ///
 /// The file is read as by `check`, which see for what is asked and for errors.
-pub fn explain<R: Read, W: Write>(
+pub fn explain_or_refuse<R: Read, W: Write>(
     alloc: Global,
     settings: Settings,
     question: Question,
     file: &mut Counted<R>,
     out: &mut Counted<W>,
-) -> Result<Status, RunFault>
+) -> Result<RunEnding, RunFault>
     requires budget { (1 ≤ settings.budget) × (settings.budget ≤ 1000000) }
     requires reads { failures_of file.old < u64.MAX }
     requires writes { failures_of out.old < u64.MAX }
@@ -367,7 +378,11 @@ pub fn explain<R: Read, W: Write>(
     ensures read_counts { Counts (is_read_failed result) (failures_of file.old) (failures_of file.new) }
     ensures write_counts { Counts (is_write_failed result) (failures_of out.old) (failures_of out.new) }
 {
-    let answered = find(alloc, settings, question, file)?;
-    write_whole(out, answered.text.as_slice())?;
-    Ok(answered.status)
+    match find(alloc, settings, question, file)? {
+        Found::Answer(answered) => {
+            write_whole(out, answered.text.as_slice())?;
+            Ok(RunEnding::Answered(answered.status))
+        }
+        Found::NoKey(words) => Ok(RunEnding::NoKey(words)),
+    }
 }

@@ -65,17 +65,18 @@ fn put_front_of(
     text: &mut Vec<u8>,
     names: &Names,
     events: usize,
+    passed: u64,
     whole: Verdict,
     failed: Option<Item>,
 ) -> Result<(), AllocError>
-    ensures { OnOk result (text.new.items ≡ text.old.items ++ objects_front names.now failed (answer_status whole) (answer_text whole) events) }
+    ensures { OnOk result (text.new.items ≡ text.old.items ++ objects_front names.now failed (answer_status whole) (answer_text whole) events passed) }
 {
     let answer = verdict_words(alloc, whole)?;
     let head = Head {
         status: status_of(whole),
         answer: &answer,
     };
-    put_objects_front(text, names, head, events, failed)
+    put_objects_front(text, names, head, events, passed, failed)
 }
 
 /// Puts the same last, where this is found of the objects.
@@ -84,28 +85,29 @@ fn put_front(
     text: &mut Vec<u8>,
     names: &Names,
     events: usize,
-    whole: Verdict,
-    found: &[Finding],
+    passed: u64,
+    found: &Findings,
 ) -> Result<(), AllocError>
-    ensures { OnOk result (text.new.items ≡ text.old.items ++ objects_front names.now (said.failing_key whole found.now) (answer_status whole) (answer_text whole) events) }
+    ensures { OnOk result (text.new.items ≡ text.old.items ++ objects_front names.now (said.failing_key found.now.whole found.now.objects.items) (answer_status found.now.whole) (answer_text found.now.whole) events passed) }
 {
-    let failed = failing_key(whole, found);
-    put_front_of(alloc, text, names, events, whole, failed)
+    let failed = failing_key(found.whole, &found.objects);
+    put_front_of(alloc, text, names, events, passed, found.whole, failed)
 }
 
-/// Puts a report last: what is found of the whole, how many events the history has, the object that fails first where the whole is undecided and
+/// Puts a report last: what is found of the whole, how many events the history has, how many maps were passed over, the object that fails first where the whole is undecided and
 /// one is a no, and what is found of its objects.
 pub fn put_json_report(
     alloc: Global,
     text: &mut Vec<u8>,
     names: &Names,
     session: &Session,
+    passed: u64,
     found: &Findings,
 ) -> Result<(), AllocError>
-    ensures { OnOk result (text.new.items ≡ text.old.items ++ report_text names.now ReportFormat.Json session.now.present found.now.keys found.now.objects.items found.now.whole) }
+    ensures { OnOk result (text.new.items ≡ text.old.items ++ report_text names.now ReportFormat.Json passed session.now.present found.now.keys found.now.objects.items found.now.whole) }
 {
     let events = session.len();
-    put_front(alloc, text, names, events, found.whole, &found.objects)?;
+    put_front(alloc, text, names, events, passed, found)?;
     put_each(alloc, text, names, session, &found.objects)?;
     text.extend_from_slice(b"]}\n")
 }

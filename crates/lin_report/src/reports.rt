@@ -79,7 +79,7 @@ fn put_text_report(
     session: &Session,
     found: &Findings,
 ) -> Result<(), AllocError>
-    ensures { OnOk result (text.new.items ≡ text.old.items ++ report_text names.now ReportFormat.Text session.now.present found.now.keys found.now.objects.items found.now.whole) }
+    ensures { OnOk result (text.new.items ≡ text.old.items ++ report_text names.now ReportFormat.Text 0 session.now.present found.now.keys found.now.objects.items found.now.whole) }
 {
     put_counts(text, session.len(), found.keys)?;
     put_lines(alloc, text, names, session, &found.objects)?;
@@ -93,34 +93,36 @@ fn reported_as(
     format: ReportFormat,
     names: &Names,
     session: &Session,
+    passed: u64,
     found: &Findings,
 ) -> Result<Vec<u8>, AllocError>
-    ensures { IfOk result (λ text. text.items ≡ report_text names.now format session.now.present found.now.keys found.now.objects.items found.now.whole) }
+    ensures { IfOk result (λ text. text.items ≡ report_text names.now format passed session.now.present found.now.keys found.now.objects.items found.now.whole) }
 {
     let mut text = Vec::new(alloc);
     match format {
         ReportFormat::Text => put_text_report(alloc, &mut text, names, session, found)?,
-        ReportFormat::Json => put_json_report(alloc, &mut text, names, session, found)?,
+        ReportFormat::Json => put_json_report(alloc, &mut text, names, session, passed, found)?,
         ReportFormat::Rest => {
-            put_json_report(alloc, &mut text, names, session, found)?;
+            put_json_report(alloc, &mut text, names, session, passed, found)?;
             take_first_away(&mut text);
         }
     }
     Ok(text)
 }
 
-/// A report of the present history, and the status of what is found of the whole.
+/// A report of the present history, beside which so many maps were passed over, and the status of what is found of the whole.
 pub fn report(
     alloc: Global,
     session: &mut Session,
     names: &Names,
     format: ReportFormat,
+    passed: u64,
 ) -> Result<(Vec<u8>, Status), OutOfMemory>
-    ensures report { IfOk result (λ reported. IsReport names.now format session.old.present reported.0.items reported.1) }
+    ensures report { IfOk result (λ reported. IsReport names.now format passed session.old.present reported.0.items reported.1) }
     ensures present { session.new.present ≡ session.old.present }
 {
     let found = find(alloc, session, names)?;
-    let text = reported_as(alloc, format, names, session, &found)?;
+    let text = reported_as(alloc, format, names, session, passed, &found)?;
     Ok((text, status_of(found.whole)))
 }
 
@@ -133,11 +135,11 @@ pub fn write_report(
     names: &Names,
     out: &mut Vec<u8>,
 ) -> Result<Status, OutOfMemory>
-    ensures written { IfOk result (λ status. (text : List ℕ) × IsReport names.now ReportFormat.Text session.old.present text status × (out.new.items ≡ out.old.items ++ text)) }
+    ensures written { IfOk result (λ status. (text : List ℕ) × IsReport names.now ReportFormat.Text 0 session.old.present text status × (out.new.items ≡ out.old.items ++ text)) }
     ensures same { OnErr result (out.new.items ≡ out.old.items) }
     ensures present { session.new.present ≡ session.old.present }
 {
-    let (text, status) = report(alloc, session, names, ReportFormat::Text)?;
+    let (text, status) = report(alloc, session, names, ReportFormat::Text, 0)?;
     out.extend_from_slice(text.as_slice())?;
     Ok(status)
 }

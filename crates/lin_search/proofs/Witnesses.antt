@@ -1,9 +1,13 @@
 -- A legal order of a history, all of whose events are of one key, is one of the key's object.
-use Rattle.std.proofs.Common.{◌≡◌, ◌<◌, ◌+◌, ℕ, zero, suc, Bool, true, false, cond, List, [], ◌∷◌, ◌++◌, All, filter, get_or, length, slice_get, take, refl, ap, subst, ◌∙◌, arith}
+use Rattle.std.proofs.Common.{◌≡◌, ◌<◌, ◌≤◌, ◌+◌, ℕ, zero, suc, Bool, true, false, cond, List, [], ◌∷◌, ◌++◌, All, filter, get_or, length, slice_get, take, refl, sym, ap, subst, ◌∙◌, arith}
 use Rattle.std.specs.Option.{option_map_or}
 use Rattle.std.proofs.Math.Seq.{take-suc}
 use Rattle.std.proofs.lemmas.List.Elements.{filter_map-append}
+use Rattle.std.specs.Prelude.{Some}
+use Rattle.std.specs.List.{cons_option}
+use Rattle.std.proofs.lemmas.List.{take_all}
 use Rattle.std.proofs.lemmas.Option.{get_or_from_slice_get, slice_get_within}
+use Rattle.lin_order.specs.lemmas.Lists.{take_more}
 use Rattle.lin_events.specs.declared.items.Item.{Item}
 use Rattle.lin_events.specs.Sameness.{Decides-item_eq}
 use Rattle.lin_events.specs.Items.{item_eq}
@@ -44,3 +48,19 @@ pub one_more : (h : List Event) (picks : List ℕ) (k d : ℕ) → k < length pi
 one_more h picks k d within =
     let next : k + 1 ≡ suc k = omega arith in
     ap (λ n. events_at h (take n picks)) next ∙ ap (events_at h) (take-suc picks k d within) ∙ filter_map-append (λ at. slice_get h at) (take k picks) (get_or picks k d ∷ [])
+
+-- an event that stands there
+stands : (h : List Event) (k : ℕ) → k < length h → (event : Event) × (slice_get h k ≡ Some event)
+stands [] k within = absurd (omega (arith, within))
+stands (event ∷ h) zero within = (event, refl)
+stands (event ∷ h) (suc k) within = stands h k (omega (arith, within))
+
+-- places that are those of all events, one after the other
+pub all_more : (h : List Event) (picks : List ℕ) (k : ℕ) → k < length picks → k < length h → get_or picks k 0 ≡ k → events_at h (take k picks) ≡ take k h → events_at h (take (k + 1) picks) ≡ take (k + 1) h
+all_more h picks k in_picks within here so_far =
+    let event = stands h k within in
+    one_more h picks k 0 in_picks ∙ ap (λ l. l ++ events_at h (get_or picks k 0 ∷ [])) so_far ∙ ap (λ at. take k h ++ events_at h (at ∷ [])) here
+    ∙ ap (λ o. take k h ++ cons_option o []) event.1 ∙ sym (take_more h k event.0 within (sym (get_or_from_slice_get h k event.0 event.0 event.1)))
+
+pub all_at_end : (h : List Event) (picks : List ℕ) (k : ℕ) → length picks ≤ k → length h ≤ k → events_at h (take k picks) ≡ take k h → events_at h picks ≡ h
+all_at_end h picks k picks_end end whole = ap (events_at h) (sym (take_all k picks picks_end)) ∙ whole ∙ take_all k h end

@@ -1,7 +1,7 @@
 //! Searches of all events for a legal order of a register or a queue, or for a failure: what is found has passed a check.
 //!
 //! Three calls ask the guides, which promise nothing, and check what these say (`witness.rt`). `finds_order` asks for an order: of
-//! registers `register_order` (`lin_registers`), of queues `queue_order` (the order of the elements first, each of which is put in
+//! registers `order_ahead` (few configurations) and `register_order` (`lin_registers`), of queues `queue_order` (the order of the elements first, each of which is put in
 //! once), of unordered queues `bag_order` (items are put in and taken out as late as their operations allow), and of all four kinds
 //! `depth_first_order` (`lin_depth_first`). `finds_conflict` asks why there is none: for operations that conflict (registers by the zones of
 //! Gibbons and Korach 1997, Testing shared memories; unordered queues by counting), or of queues for debts that can't be paid

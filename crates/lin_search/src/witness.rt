@@ -1,7 +1,7 @@
-//! A legal order, or operations that conflict, as a witness: found by a search that promises nothing, and checked.
+//! A legal order, or a certificate, as a witness: found by a search that promises nothing, and checked.
 //!
 //! What goes through events counts a step for each of them: the search for an order, the check of it, the search for a failure, and the
-//! check of the conflict that it found. The check of an order counts a try for each operation of it.
+//! check of the certificate that it found. The check of an order counts a try for each operation of it.
 ghost use Rattle.lin_events.specs.declared.items.Item.{Item as ItemOf};
 ghost use Rattle.lin_events.specs.declared.calls.Name.{Name as NameOf};
 ghost use Rattle.lin_events.specs.WellFormed.{IsWellFormed};
@@ -14,18 +14,20 @@ ghost use Rattle.lin_order.specs.Parts.{events_at};
 
 use crate::bags::bag_order;
 use crate::queues::queue_order;
-use lin_certificates::{BagConflict, Conflict, bag_failure, is_bag_refuted, is_refuted};
+use lin_certificates::{Certificate, bag_failure, certificates_exclude_orders, certifies};
 use lin_depth_first::depth_first_order;
 use lin_events::{Event, Item, Meter, OutOfMemory, beginnings_are_well_formed};
 use lin_objects::{Kind, Kinds};
 use lin_order::{Placed, check_order};
 use lin_queues::{QueueFinding, failing_event, overtaken_ranks_are_illegal, rank_failure};
-use lin_registers::{register_failure, register_order};
+use lin_registers::{order_ahead, register_failure, register_order};
 use std::alloc::Global;
 
 /// Which search for an order is asked.
 #[derive(Clone, Copy)]
 pub enum Guide {
+    /// The one of registers that keeps few configurations. It is quick, and finds an order of most recordings.
+    Ahead,
     /// The one that the kind has.
     OfKind,
     /// The depth-first one.
@@ -112,6 +114,22 @@ fn own_order(
     }
 }
 
+/// An order of the events of a register, if the search that keeps few configurations finds one. Of other kinds it is none.
+fn quick_order(
+    alloc: Global,
+    kind: Kind,
+    events: &[Event],
+    meter: &mut Meter,
+) -> Result<Option<Vec<Placed>>, OutOfMemory>
+    ensures tries { meter.old.tries ≤ meter.new.tries }
+    ensures others { meter.new ≡ record meter.old { tries = meter.new.tries } }
+{
+    match kind {
+        Kind::Register | Kind::CasRegister => order_ahead(alloc, events, meter),
+        Kind::Fifo | Kind::Bag | Kind::Set | Kind::Mutex => Ok(None),
+    }
+}
+
 /// An order of the events of an object of the kind, if the depth-first search finds one, with a try counted for each call that was tried.
 fn deep_order(
     alloc: Global,
@@ -138,13 +156,30 @@ fn attempted(
     ensures others { meter.new ≡ record meter.old { tries = meter.new.tries } }
 {
     match guide {
+        Guide::Ahead => quick_order(alloc, kind, events, meter),
         Guide::OfKind => own_order(alloc, kind, events, meter),
         Guide::DepthFirst => deep_order(alloc, kind, events, meter),
-        Guide::Any => match own_order(alloc, kind, events, meter)? {
-            Some(order) => Ok(Some(order)),
-            None => deep_order(alloc, kind, events, meter),
-        },
+        Guide::Any => any_order(alloc, kind, events, meter),
     }
+}
+
+/// The same of all guides, one after the other.
+fn any_order(
+    alloc: Global,
+    kind: Kind,
+    events: &[Event],
+    meter: &mut Meter,
+) -> Result<Option<Vec<Placed>>, OutOfMemory>
+    ensures tries { meter.old.tries ≤ meter.new.tries }
+    ensures others { meter.new ≡ record meter.old { tries = meter.new.tries } }
+{
+    if let Some(order) = quick_order(alloc, kind, events, meter)? {
+        return Ok(Some(order));
+    }
+    if let Some(order) = own_order(alloc, kind, events, meter)? {
+        return Ok(Some(order));
+    }
+    deep_order(alloc, kind, events, meter)
 }
 
 /// Whether all events are of the key.
@@ -223,8 +258,47 @@ fn shown_of(
     ensures steps { meter.new.steps ≤ meter.old.steps + 2 * length picks.now }
     ensures scans { meter.new.scans ≡ meter.old.scans }
 {
+    if are_all(events, picks) {
+        return shown_whole(alloc, kind, guide, events, picks, meter);
+    }
     let own = picked(alloc, events, picks, meter)?;
     shown(alloc, kind, guide, own.as_slice(), meter)
+}
+
+/// Whether the places are those of all events, one after the other.
+fn are_all(events: &[Event], picks: &[usize]) -> bool
+    ensures { IsTrue result → events_at events.now picks.now ≡ events.now }
+{
+    if events.len() != picks.len() {
+        return false;
+    }
+    for (at, pick) in picks.iter().enumerate() {
+        if *pick != at {
+            return false;
+        }
+    }
+    true
+}
+
+/// The same where the places are those of all events: these needn't be copied.
+fn shown_whole(
+    alloc: Global,
+    kind: Kind,
+    guide: Guide,
+    events: &[Event],
+    picks: &[usize],
+    meter: &mut Meter,
+) -> Result<Option<Vec<Placed>>, OutOfMemory>
+    requires all { events_at events.now picks.now ≡ events.now }
+    ensures legal { IfOk result (λ found. IfSome found (λ order. IsLegalOrderAs kind (events_at events.now picks.now) order.items)) }
+    ensures counted { IfOk result (λ found. IfSome found (λ order. meter.new.steps ≡ ticked meter.old.steps (length picks.now + length (events_at events.now picks.now)))) }
+    ensures tried { IfOk result (λ found. IfSome found (λ order. ticked meter.old.tries (length order.items) ≤ meter.new.tries)) }
+    ensures searched { IfOk result (λ found. ticked meter.old.steps (length picks.now) ≤ meter.new.steps) }
+    ensures steps { meter.new.steps ≤ meter.old.steps + 2 * length picks.now }
+    ensures scans { meter.new.scans ≡ meter.old.scans }
+{
+    tick_steps(meter, picks.len());
+    shown(alloc, kind, guide, events, meter)
 }
 
 /// A legal order of the events at the places, which all are of one key, if one is found. Of events of several keys none is.
@@ -260,51 +334,20 @@ pub fn finds_order(
     }
 }
 
-/// Why an object has no legal order.
-#[derive(Drop)]
-enum Reason {
-    Register(Conflict),
-    Bag(BagConflict),
-}
-
-/// Operations of an object of the kind that conflict, if a search finds such ones, and the event up to which they do.
+/// A certificate of an object of the kind, if a search finds one, and the event up to which it holds.
 fn sought_as(
     alloc: Global,
     kind: Kind,
     events: &[Event],
-) -> Result<Option<(usize, Reason)>, OutOfMemory> {
+) -> Result<Option<(usize, Certificate)>, OutOfMemory> {
     match kind {
-        Kind::Register | Kind::CasRegister => {
-            Ok(register_failure(alloc, events)?.map(|(at, conflict)| (
-                at,
-                Reason::Register(conflict),
-            )))
-        }
-        Kind::Bag => {
-            Ok(bag_failure(alloc, events)?.map(|(at, conflict)| (at, Reason::Bag(conflict))))
-        }
+        Kind::Register | Kind::CasRegister => register_failure(alloc, events),
+        Kind::Bag => bag_failure(alloc, events),
         Kind::Fifo | Kind::Set | Kind::Mutex => Ok(None),
     }
 }
 
-/// Whether no object of the kind has a legal order of the events, for this reason.
-fn is_refuted_as(kind: Kind, events: &[Event], reason: &Reason) -> bool
-    ensures { IsTrue result → IsLinearizableAs kind events.now → ⊥ }
-{
-    match reason {
-        Reason::Register(conflict) => match kind {
-            Kind::Register => is_refuted(events, conflict),
-            Kind::CasRegister => is_refuted(events, conflict),
-            Kind::Fifo | Kind::Bag | Kind::Set | Kind::Mutex => false,
-        },
-        Reason::Bag(conflict) => match kind {
-            Kind::Bag => is_bag_refuted(events, conflict),
-            Kind::Register | Kind::CasRegister | Kind::Fifo | Kind::Set | Kind::Mutex => false,
-        },
-    }
-}
-
-/// The event up to which operations of an object of the kind conflict, if such ones are found. The check of them is counted, and not the search.
+/// The event up to which an object of the kind has no legal order, if a certificate is found. The check of it is counted, and not the search.
 fn conflicting(
     alloc: Global,
     kind: Kind,
@@ -318,14 +361,15 @@ fn conflicting(
     ensures most { meter.new.steps ≤ meter.old.steps + length events.now }
     ensures scans { meter.new.scans ≡ meter.old.scans }
 {
-    let Some((at, reason)) = sought_as(alloc, kind, events)? else {
+    certificates_exclude_orders();
+    let Some((at, certificate)) = sought_as(alloc, kind, events)? else {
         return Ok(None);
     };
     if at >= events.len() {
         return Ok(None);
     }
     tick_steps(meter, at + 1);
-    if is_refuted_as(kind, &events[..at + 1], &reason) {
+    if certifies(alloc, &events[..at + 1], kind, &certificate)? {
         Ok(Some(at))
     } else {
         Ok(None)

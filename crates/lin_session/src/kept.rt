@@ -22,6 +22,8 @@ pub(crate) struct Objects {
     pub(crate) split: usize,
     pub(crate) keys: IndexSet<Item>,
     pub(crate) objects: Vec<Object>,
+    /// Whether each is expected to be asked about once.
+    pub(crate) once: bool,
     /// At the place of each key stands its object.
     ghost aligned: { length objects.items ≡ length keys.keys },
 }

@@ -75,8 +75,8 @@ impl Object {
         Ok(order)
     }
 
-    /// Nothing is known of an object of the kind.
-    pub(crate) fn new(alloc: Global, kind: Kind) -> Object
+    /// Nothing is known of an object of the kind. `once` is handed to its chain.
+    pub(crate) fn new(alloc: Global, kind: Kind, once: bool) -> Object
         ensures picks { result.picks.items ≡ [] }
         ensures count { result.count ≡ 0 }
         ensures kind { kind_in result.chain ≡ kind }
@@ -87,7 +87,7 @@ impl Object {
         Object {
             picks: Vec::new(alloc),
             count: 0,
-            chain: Chain::new(alloc, kind),
+            chain: Chain::new(alloc, kind, once),
         }
     }
 

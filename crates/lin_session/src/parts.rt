@@ -23,7 +23,7 @@ use std::alloc::Global;
 
 impl Objects {
     /// No event was looked at.
-    pub(crate) fn new(alloc: Global) -> Objects
+    pub(crate) fn new(alloc: Global, once: bool) -> Objects
         ensures right { (kinds : ItemOf → KindOf) (budget : ℕ) (h : List EventOf) → AreRight result kinds budget h }
         ensures marks { (key : ItemOf) → marks_in result key ≡ unasked }
     {
@@ -31,6 +31,7 @@ impl Objects {
             split: 0,
             keys: IndexSet::new(alloc),
             objects: Vec::new(alloc),
+            once,
         }
     }
 
@@ -193,24 +194,46 @@ impl Objects {
         ensures marks { AreSameMarks (marks_in self.old) (marks_in self.new) }
     {
         while self.split < events.len() {
-            let event = &events[self.split];
-            self.split_next(alloc, event.key, kinds.of(event.key))?;
+            self.split_next(alloc, events, kinds)?;
         }
         Ok(())
     }
 
-    fn split_next(&mut self, alloc: Global, key: Item, kind: Kind) -> Result<(), OutOfMemory>
-        requires room { split_in self.old < usize.MAX }
-        ensures split { OnOk result (split_in self.new ≡ split_in self.old + 1) }
-        ensures next { OnOk result ((kinds : ItemOf → KindOf) (budget : ℕ) (h : List EventOf) (event : EventOf) → slice_get h (split_in self.old) ≡ Some event → event.key ≡ key → kinds key ≡ kind
-            → AreRight self.old kinds budget h → AreRight self.new kinds budget h) }
-        ensures same { OnErr result ((kinds : ItemOf → KindOf) (budget : ℕ) (h : List EventOf) → AreRight self.old kinds budget h → AreRight self.new kinds budget h) }
+    /// Tells the next event apart; where its key is listed, so are those behind it up to the first one of another key, which need no look-up.
+    fn split_next(
+        &mut self,
+        alloc: Global,
+        events: &[Event],
+        kinds: &Kinds,
+    ) -> Result<(), OutOfMemory>
+        requires more { split_in self.old < length events.now }
+        ensures more { OnOk result (split_in self.old < split_in self.new) }
+        ensures within { split_in self.new ≤ length events.now }
+        ensures right { (budget : ℕ) → AreRight self.old (kind_of kinds.now) budget events.now → AreRight self.new (kind_of kinds.now) budget events.now }
         ensures marks { AreSameMarks (marks_in self.old) (marks_in self.new) }
     {
+        let key = events[self.split].key;
         match self.find(key) {
-            Some(i) => self.pick(i),
-            None => self.add(alloc, key, kind),
+            Some(i) => self.pick_all(i, key, events)?,
+            None => self.add(alloc, key, kinds.of(key))?,
         }
+        Ok(())
+    }
+
+    /// The next event is of the key that is listed here, as are those behind it up to the first one of another key.
+    fn pick_all(&mut self, i: usize, key: Item, events: &[Event]) -> Result<(), OutOfMemory>
+        requires listed { slice_get self.old.keys.keys i ≡ Some key }
+        requires next { (event : EventOf) × (slice_get events.now (split_in self.old) ≡ Some event) × (event.key ≡ key) }
+        ensures more { OnOk result (split_in self.old < split_in self.new) }
+        ensures within { split_in self.new ≤ length events.now }
+        ensures right { (kinds : ItemOf → KindOf) (budget : ℕ) → AreRight self.old kinds budget events.now → AreRight self.new kinds budget events.now }
+        ensures marks { AreSameMarks (marks_in self.old) (marks_in self.new) }
+    {
+        self.pick(i)?;
+        while self.split < events.len() && events[self.split].key == key {
+            self.pick(i)?;
+        }
+        Ok(())
     }
 
     /// The next event is of the key that is listed here.
@@ -218,6 +241,8 @@ impl Objects {
         requires room { split_in self.old < usize.MAX }
         requires listed { i < length self.old.keys.keys }
         ensures split { OnOk result (split_in self.new ≡ split_in self.old + 1) }
+        ensures refused { OnErr result (split_in self.new ≡ split_in self.old) }
+        ensures keys { self.new.keys ≡ self.old.keys }
         ensures next { OnOk result ((kinds : ItemOf → KindOf) (budget : ℕ) (h : List EventOf) (event : EventOf) → slice_get h (split_in self.old) ≡ Some event → slice_get self.old.keys.keys i ≡ Some event.key
             → AreRight self.old kinds budget h → AreRight self.new kinds budget h) }
         ensures same { OnErr result ((kinds : ItemOf → KindOf) (budget : ℕ) (h : List EventOf) → AreRight self.old kinds budget h → AreRight self.new kinds budget h) }
@@ -235,13 +260,14 @@ impl Objects {
         requires room { split_in self.old < usize.MAX }
         requires absent { Contains self.old.keys.keys key → ⊥ }
         ensures split { OnOk result (split_in self.new ≡ split_in self.old + 1) }
+        ensures refused { OnErr result (split_in self.new ≡ split_in self.old) }
         ensures next { OnOk result ((kinds : ItemOf → KindOf) (budget : ℕ) (h : List EventOf) (event : EventOf) → slice_get h (split_in self.old) ≡ Some event → event.key ≡ key → kinds key ≡ kind
             → AreRight self.old kinds budget h → AreRight self.new kinds budget h) }
         ensures same { OnErr result ((kinds : ItemOf → KindOf) (budget : ℕ) (h : List EventOf) → AreRight self.old kinds budget h → AreRight self.new kinds budget h) }
         ensures marks { AreSameMarks (marks_in self.old) (marks_in self.new) }
     {
         parts_grow();
-        let mut object = Object::new(alloc, kind);
+        let mut object = Object::new(alloc, kind, self.once);
         object.pick(self.split)?;
         self.objects.reserve(1)?;
         self.keys.insert(key)?;

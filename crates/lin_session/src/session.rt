@@ -82,7 +82,7 @@ impl Session {
         ensures refused { (result ≡ Err EditFault.BadBudget) ↔ (IsBudget budget → ⊥) }
         ensures fault { IfErr result (λ fault. fault ≡ EditFault.BadBudget) }
     {
-        let mut session = Session::of(alloc, default, budget, Vec::new(alloc))?;
+        let mut session = Session::begin(alloc, default, budget, Vec::new(alloc), false)?;
         session.low = None;
         Ok(session)
     }
@@ -90,12 +90,32 @@ impl Session {
     /// The history of these events, with all objects of one kind.
     ///
     /// The events are taken over as they are: no memory is taken for them, and nothing is looked at yet. The budget is from 1
-    /// to 1,000,000, and else `BadBudget`; under such a budget, more than 1,000,000 events are `Full`.
+    /// to 1,000,000, and else `BadBudget`; under such a budget, more than 1,000,000 events are `Full`. The first question is expected to be
+    /// the only one: it is the faster for it, and a further event behind it the slower, once.
     pub fn of(
         alloc: Global,
         default: Kind,
         budget: u32,
         events: Vec<Event>,
+    ) -> Result<Session, EditFault>
+        ensures opened { IfOk result (λ session. session.present ≡ record { history = events.items; kinds = same_for_all default; budget = budget }) }
+        ensures unsettled { IfOk result (λ session. session.low ≡ Some 0) }
+        ensures marks { IfOk result (λ session. (key : ItemOf) → mark_of session.marks key ≡ unasked) }
+        ensures unused { IfOk result (λ session. session.meter ≡ record { scans = 0; steps = 0; tries = 0 }) }
+        ensures refused { (result ≡ Err EditFault.BadBudget) ↔ (IsBudget budget → ⊥) }
+        ensures full { (result ≡ Err EditFault.Full) ↔ (IsBudget budget × (1000000 < length events.items)) }
+        ensures fault { IfErr result (λ fault. (fault ≡ EditFault.BadBudget) ⊎ (fault ≡ EditFault.Full)) }
+    {
+        Session::begin(alloc, default, budget, events, true)
+    }
+
+    /// The history of these events; `once` says whether one question is expected.
+    fn begin(
+        alloc: Global,
+        default: Kind,
+        budget: u32,
+        events: Vec<Event>,
+        once: bool,
     ) -> Result<Session, EditFault>
         ensures opened { IfOk result (λ session. session.present ≡ record { history = events.items; kinds = same_for_all default; budget = budget }) }
         ensures unsettled { IfOk result (λ session. session.low ≡ Some 0) }
@@ -116,7 +136,7 @@ impl Session {
             kinds: Kinds::new(alloc, default),
             budget,
             scan: Scan::new(alloc),
-            objects: Objects::new(alloc),
+            objects: Objects::new(alloc, once),
             meter: Meter::new(),
             low: Some(0),
         })

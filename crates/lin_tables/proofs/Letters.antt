@@ -1,10 +1,9 @@
 -- Where a text is cut.
 use native.Mathlib.Numerals.{unary_clauses}
-use Rattle.std.proofs.Common.{◌≡◌, ◌+◌, ◌-◌, ◌<◌, ◌≤◌, ℕ, zero, suc, List, [], ◌∷◌, ◌++◌, true, false, ap, refl, sym, ◌∙◌, append_assoc, codes, drop, length, slice_index_or, take, arith, if◌then◌else◌, Result, Ok, Err, OnOk, is_ok}
-use Rattle.std.proofs.Math.Seq.{take-add}
+use Rattle.std.proofs.Common.{◌≡◌, ◌+◌, ◌-◌, ◌<◌, ◌≤◌, ℕ, zero, suc, List, [], ◌∷◌, ◌++◌, true, false, ap, refl, sym, ◌∙◌, codes, drop, length, slice_index_or, take, arith, if◌then◌else◌, Result, Ok, Err, OnOk, is_ok}
 use Rattle.std.proofs.lemmas.Bool.{le-leb, lt-leb}
-use Rattle.std.proofs.lemmas.List.{drop-drop, drop_all, length-drop, take-append-drop, take-take, take_all}
-use Rattle.lin_tables.specs.Values.{begins_letter, from_letter, letter_at, short_text}
+use Rattle.std.proofs.lemmas.List.{drop_all}
+use Rattle.lin_tables.specs.Shortening.{begins_letter, from_letter, letter_at, short_text}
 
 -- a letter may begin there
 pub letter_here : (text : List ℕ) (at : ℕ) → begins_letter (slice_index_or text at 0) ≡ true → at ≡ letter_at text at
@@ -52,29 +51,6 @@ short_whole text short = ap (λ b. if b then text else take (letter_at text 10) 
 pub short_cut : (text : List ℕ) → 24 < length text → short_text text ≡ take (letter_at text 10) text ++ codes "..." ++ from_letter (drop (length text - 11) text)
 unfolding short_text
 short_cut text long = ap (λ b. if b then text else take (letter_at text 10) text ++ codes "..." ++ from_letter (drop (length text - 11) text)) (lt-leb _ _ long)
-
--- all of a line from a place on
-pub rest_of : (line : List ℕ) (from : ℕ) → take (length line - from) (drop from line) ≡ drop from line
-rest_of line from = take_all (length line - from) (drop from line) (let long = length-drop from line in omega (arith, long))
-
--- a line whose end is short stays
-pub stays_short : (line : List ℕ) (from : ℕ) → length (drop from line) ≤ 24 → line ≡ take from line ++ short_text (drop from line)
-stays_short line from short = sym (ap (λ l. take from line ++ l) (short_whole (drop from line) short) ∙ take-append-drop from line)
-
--- the middle of one whose end isn't goes
-pub is_cut : (line rest : List ℕ) (from front back : ℕ) → 24 < length (drop from line) → front ≤ back → front ≡ letter_at (drop from line) 10
-    → drop back (drop from line) ≡ from_letter (drop (length (drop from line) - 11) (drop from line)) → rest ≡ drop (from + back) line
-    → (take (from + front) (take (from + back) line) ++ codes "...") ++ rest ≡ take from line ++ short_text (drop from line)
-is_cut line rest from front back long least is_front is_back is_rest =
-    let text = drop from line in
-    let kept = take-take (from + front) (from + back) line (omega (arith, least)) ∙ take-add from front line in
-    let behind = is_rest ∙ sym (drop-drop back from line) ∙ is_back in
-    ap (λ l. (l ++ codes "...") ++ rest) kept
-    ∙ ap (λ l. ((take from line ++ take front text) ++ codes "...") ++ l) behind
-    ∙ ap (λ l. l ++ from_letter (drop (length text - 11) text)) (append_assoc (take from line) (take front text) (codes "..."))
-    ∙ append_assoc (take from line) (take front text ++ codes "...") (from_letter (drop (length text - 11) text))
-    ∙ ap (λ n. take from line ++ ((take n text ++ codes "...") ++ from_letter (drop (length text - 11) text))) is_front
-    ∙ sym (ap (λ l. take from line ++ l) (short_cut text long))
 
 pub put_ok : {T E : Type 0} (r : Result T E) (new all old wanted : List ℕ) → new ≡ (if is_ok r then all else old) → all ≡ wanted → OnOk r (new ≡ wanted)
 put_ok (Ok x) new all old wanted put is = put ∙ is

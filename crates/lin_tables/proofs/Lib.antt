@@ -1,4 +1,7 @@
 pub mod Letters
+pub mod Shortened
+pub mod Apart
+pub mod Told
 pub mod Listed
 pub mod Widths
 pub mod Passing

@@ -1,4 +1,6 @@
+pub mod Shortening
 pub mod Values
+pub mod ValueLaws
 pub mod Operations
 pub mod Tables
 pub mod Spots

@@ -10,7 +10,9 @@ use Rattle.lin_events.specs.declared.events.Body.{Body}
 use Rattle.lin_events.specs.declared.events.Body.TheVariants.{Invoke, Ok, Fail, Info}
 use Rattle.lin_events.specs.declared.events.Event.{Event}
 use Rattle.lin_events.specs.Names.{name_of}
-use Rattle.lin_tables.specs.Values.{reply_text, short_item_text, value_text}
+use Rattle.lin_tables.specs.Values.{item_worded, reply_worded, value_worded}
+use Rattle.lin_tables.specs.declared.spellings.Wording.{Wording}
+use Rattle.lin_tables.specs.declared.spellings.Wording.TheVariants.{Short}
 
 abbrev pub name_text : Name → List ℕ
 name_text Named.Read = codes "read"
@@ -25,36 +27,44 @@ name_text Named.Release = codes "release"
 abbrev pub process_text : ℕ → List ℕ
 process_text process = codes "p" ++ decimal process
 
-module _ (names : List (List ℕ)) where
+module _ (wording : Wording) (names : List (List ℕ)) where
   -- what a call is given, each behind a space
-  abbrev pub arguments_text : Call → List ℕ
-  arguments_text Read = []
-  arguments_text (Write v) = codes " " ++ value_text names v
-  arguments_text (Cas old new) = (codes " " ++ value_text names old) ++ (codes " " ++ value_text names new)
-  arguments_text (Enqueue i) = codes " " ++ short_item_text names i
-  arguments_text Dequeue = []
-  arguments_text (Add i) = codes " " ++ short_item_text names i
-  arguments_text Acquire = []
-  arguments_text Release = []
+  abbrev pub arguments_worded : Call → List ℕ
+  arguments_worded Read = []
+  arguments_worded (Write v) = codes " " ++ value_worded wording names v
+  arguments_worded (Cas old new) = (codes " " ++ value_worded wording names old) ++ (codes " " ++ value_worded wording names new)
+  arguments_worded (Enqueue i) = codes " " ++ item_worded wording names i
+  arguments_worded Dequeue = []
+  arguments_worded (Add i) = codes " " ++ item_worded wording names i
+  arguments_worded Acquire = []
+  arguments_worded Release = []
 
-  abbrev pub call_text : Call → List ℕ
-  call_text call = name_text (name_of call) ++ arguments_text call
+  abbrev pub call_worded : Call → List ℕ
+  call_worded call = name_text (name_of call) ++ arguments_worded call
 
   -- a reply that says more than that the call was done, behind a space
   abbrev pub reply_behind : Reply → List ℕ
   reply_behind Done = []
-  reply_behind (Value v) = codes " " ++ reply_text names (Value v)
-  reply_behind (Members xs) = codes " " ++ reply_text names (Members xs)
+  reply_behind (Value v) = codes " " ++ reply_worded wording names (Value v)
+  reply_behind (Members xs) = codes " " ++ reply_worded wording names (Members xs)
 
   -- the operation of a process, with its reply if it has one
+  abbrev pub operation_worded : ℕ → Call → Option Reply → List ℕ
+  operation_worded process call None = process_text process ++ codes " " ++ call_worded call
+  operation_worded process call (Some reply) = process_text process ++ codes " " ++ call_worded call ++ reply_behind reply
+
+-- as lines tell them
+module _ (names : List (List ℕ)) where
+  abbrev pub call_text : Call → List ℕ
+  call_text call = call_worded Short names call
+
   abbrev pub operation_text : ℕ → Call → Option Reply → List ℕ
-  operation_text process call None = process_text process ++ codes " " ++ call_text call
-  operation_text process call (Some reply) = process_text process ++ codes " " ++ call_text call ++ reply_behind reply
+  operation_text process call reply = operation_worded Short names process call reply
 
   -- what an event says behind its process
   abbrev pub body_text : Body → List ℕ
   body_text (Invoke call) = codes " invoke " ++ call_text call
-  body_text (Ok name reply) = codes " " ++ codes "ok" ++ codes " " ++ name_text name ++ reply_behind reply
+  body_text (Ok name reply) = codes " " ++ codes "ok" ++ codes " " ++ name_text name ++ reply_behind Short names reply
   body_text (Fail name) = codes " " ++ codes "fail" ++ codes " " ++ name_text name
   body_text (Info name) = codes " " ++ codes "info" ++ codes " " ++ name_text name
 

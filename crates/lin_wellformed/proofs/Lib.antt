@@ -1,3 +1,4 @@
 mod StatusLemmas
+mod NumberLemmas
 mod TableLemmas
 mod ScanLemmas

@@ -1,8 +1,7 @@
 -- Scans that are right, and stay so.
-use Rattle.std.proofs.Common.{◌≡◌, ◌≢◌, ℕ, ◌+◌, ◌-◌, ◌^◌, min, ◌<◌, ◌≤◌, zero, suc, Bool, true, false, List, [], ◌∷◌, ◌++◌, length, take, ◌⊎◌, inl, inr, refl, sym, ap, ◌∙◌, subst, arith, cond, true≢false, nat_eq, add-one}
+use Rattle.std.proofs.Common.{◌≡◌, ◌≢◌, ℕ, ◌+◌, ◌-◌, ◌^◌, min, ◌<◌, ◌≤◌, zero, suc, Bool, List, [], ◌∷◌, ◌++◌, length, take, ◌⊎◌, inl, inr, refl, sym, ap, ◌∙◌, subst, arith}
 use Rattle.std.proofs.lemmas.Bool.{cases_lt}
-use Rattle.std.proofs.lemmas.Bool.Decides.{Decides-eqb}
-use Rattle.std.proofs.lemmas.List.{take-take, take_all, length-take, length-take-le}
+use Rattle.std.proofs.lemmas.List.{map-append, take-map, take-take, take_all, length-take, length-take-le, length_push}
 use Rattle.std.proofs.lemmas.Option.{slice_get_within}
 use Rattle.lin_events.specs.declared.items.Item.{Item}
 use Rattle.lin_events.specs.declared.calls.Name.{Name}
@@ -10,7 +9,7 @@ use Rattle.lin_events.specs.declared.events.Event.{Event}
 use Rattle.lin_events.specs.declared.meter.Meter.{Meter}
 use Rattle.lin_events.specs.Meters.{ticked}
 use Rattle.lin_events.specs.Operations.{IsEvent}
-use Rattle.lin_events.specs.WellFormedLaws.{BadWithinBeginnings, EventsDecideStatuses, NoCauseIsGood, OtherStatusesStay, SameFunctionsSameShape}
+use Rattle.lin_events.specs.WellFormedLaws.{BadWithinBeginnings, NoCauseIsGood, SameFunctionsSameShape}
 use Rattle.lin_objects.specs.declared.kinds.Kind.{Kind}
 use Rattle.lin_objects.specs.Kinds.{functions_of}
 use Rattle.lin_objects.specs.Steps.{allows}
@@ -19,9 +18,8 @@ use Rattle.lin_events.specs.declared.shapes.Cause.{Cause}
 use Rattle.lin_events.specs.declared.shapes.Shape.{Shape}
 use Rattle.lin_events.specs.declared.shapes.Shape.TheVariants.{Good, Bad}
 use Rattle.lin_events.specs.declared.shapes.ProcessStatus.{ProcessStatus}
-use Rattle.lin_wellformed.specs.Scans.{ready_count, IsRight, AgreeBefore, looked_at, good_count}
-use Rattle.lin_wellformed.specs.Tables.{Statuses, count_in, status_at}
-use Rattle.lin_events.specs.WellFormed.{left_by, IsStatus, Holds, IsFirstCause, IsBad, IsShape}
+use Rattle.lin_wellformed.specs.Scans.{ready_count, IsRight, AgreeBefore, looked_at, good_count, processes_of}
+use Rattle.lin_events.specs.WellFormed.{IsStatus, Holds, IsFirstCause, IsBad, IsShape}
 use Rattle.lin_lists.specs.lemmas.Lists.{get_taken, take_next}
 
 -- where the loop ends: all events are taken in, or one is bad
@@ -35,46 +33,21 @@ bad_taken kinds h scan at cause right bad =
     (get_taken (ready_count scan) h at was.0.event was.0.stands).0
 
 -- so the table has no more than those
-table_within : (kinds : Item → Kind) (h : List Event) (scan : Scan) → IsRight scan kinds h → count_in scan.table ≤ ready_count scan
+table_within : (kinds : Item → Kind) (h : List Event) (scan : Scan) → IsRight scan kinds h → length scan.table ≤ ready_count scan
 table_within kinds h scan right = by scan.shape refl
   where
-    by : (shape : Shape) → scan.shape ≡ shape → count_in scan.table ≤ ready_count scan
+    by : (shape : Shape) → scan.shape ≡ shape → length scan.table ≤ ready_count scan
     by Good good = let same = right.counted ∙ ap (λ s. good_count s (ready_count scan)) good in omega arith
     by (Bad at cause) bad =
         let same = right.counted ∙ ap (λ s. good_count s (ready_count scan)) bad in
         let inside = bad_taken kinds h scan at cause right bad in
         omega arith
 
-module _ (decided : EventsDecideStatuses) (others : OtherStatusesStay) where
-  -- what a process is after one more event
-  status_next : (h : List Event) (n : ℕ) (event : Event) (process : ℕ) (before after : ProcessStatus) → IsEvent h n event
-      → after ≡ cond (nat_eq event.process process) (left_by event) before → IsStatus (take n h) process before → IsStatus (take (suc n) h) process after
-  status_next h n event process before after stands taken was =
-      subst (λ l. IsStatus l process after) (sym (take_next n h event stands)) (by (nat_eq event.process process) refl)
-    where
-      by : (b : Bool) → nat_eq event.process process ≡ b → IsStatus (take n h ++ event ∷ []) process after
-      by true e =
-          let same : event.process ≡ process = (Decides-eqb event.process process).0 e in
-          let left : after ≡ left_by event = taken ∙ ap (λ b. cond b (left_by event) before) e in
-          subst (λ s. IsStatus (take n h ++ event ∷ []) process s) (sym left) (subst (λ p. IsStatus (take n h ++ event ∷ []) p (left_by event)) same (decided (take n h) event))
-      by false e =
-          let kept : after ≡ before = taken ∙ ap (λ b. cond b (left_by event) before) e in
-          let other : event.process ≢ process = λ same. true≢false (sym ((Decides-eqb event.process process).1 same) ∙ e) in
-          subst (λ s. IsStatus (take n h ++ event ∷ []) process s) (sym kept) (others (take n h) event process before other was)
-
-  -- a table with one more event has what each process was after each of them
-  listed_next : (h : List Event) (event : Event) (old new : Statuses) → IsEvent h (count_in old) event → count_in new ≡ count_in old + 1
-      → ((k process : ℕ) → k ≤ count_in old → status_at new k process ≡ status_at old k process)
-      → ((process : ℕ) → status_at new (count_in old + 1) process ≡ cond (nat_eq event.process process) (left_by event) (status_at old (count_in old) process))
-      → ((k process : ℕ) → k ≤ count_in old → IsStatus (take k h) process (status_at old k process))
-      → (k process : ℕ) → k ≤ count_in new → IsStatus (take k h) process (status_at new k process)
-  listed_next h event old new stands count before after listed k process upto = elim (cases_lt (count_in old) k) [
-    | inl later ↦
-        let last : count_in old + 1 ≡ k = omega arith in
-        let next = status_next h (count_in old) event process (status_at old (count_in old) process) (status_at new (count_in old + 1) process) stands (after process) (listed (count_in old) process (omega arith)) in
-        subst (λ n. IsStatus (take n h) process (status_at new n process)) last (subst (λ n. IsStatus (take n h) process (status_at new (count_in old + 1) process)) (sym (add-one (count_in old))) next)
-    | inr earlier ↦ subst (IsStatus (take k h) process) (sym (before k process earlier)) (listed k process earlier)
-  ]
+-- the processes of one more event
+processes_next : (h : List Event) (n : ℕ) (event : Event) → IsEvent h n event → processes_of (take (n + 1) h) ≡ processes_of (take n h) ++ event.process ∷ []
+processes_next h n event stands =
+    let one_more : suc n ≡ n + 1 = omega arith in
+    ap (λ m. processes_of (take m h)) (sym one_more) ∙ ap processes_of (take_next n h event stands) ∙ map-append (λ (e : Event). e.process) (take n h) (event ∷ [])
 
 module _ (beginnings : BadWithinBeginnings) where
   -- what is bad in a beginning is bad
@@ -85,73 +58,65 @@ module _ (beginnings : BadWithinBeginnings) where
   bad_shorter : (functions : Item → Name → Bool) (h : List Event) (n at : ℕ) (cause : Cause) → at < n → IsBad functions h at cause → IsBad functions (take n h) at cause
   bad_shorter functions h n at cause below bad = (beginnings functions h n at cause).1 (below, bad)
 
-  -- what the event's process is before it, and that no event so far is bad
-  record Before (kinds : Item → Kind) (h : List Event) (scan : Scan) (event : Event) : Type 0 where
-    all : count_in scan.table ≡ ready_count scan
+  -- no event so far is bad, and the table has the processes of all
+  record Before (kinds : Item → Kind) (h : List Event) (scan : Scan) : Type 0 where
+    all : length scan.table ≡ ready_count scan
     good : (k : ℕ) (cause : Cause) → k < ready_count scan → IsBad (functions_of kinds) h k cause → ⊥
-    found : IsStatus (take (ready_count scan) h) event.process (status_at scan.table (count_in scan.table) event.process)
 
-  before_event : (kinds : Item → Kind) (h : List Event) (scan : Scan) (event : Event) → IsRight scan kinds h → scan.shape ≡ Good → Before kinds h scan event
-  before_event kinds h scan event right good = record {
-    all = all;
+  before_event : (kinds : Item → Kind) (h : List Event) (scan : Scan) → IsRight scan kinds h → scan.shape ≡ Good → Before kinds h scan
+  before_event kinds h scan right good = record {
+    all = right.counted ∙ ap (λ s. good_count s (ready_count scan)) good;
     good = λ k cause below bad. was k cause (bad_shorter (functions_of kinds) h (ready_count scan) k cause below bad);
-    found = subst (λ n. IsStatus (take n h) event.process (status_at scan.table (count_in scan.table) event.process)) all (right.listed (count_in scan.table) event.process (omega arith));
   }
     where
-      all : count_in scan.table ≡ ready_count scan
-      all = right.counted ∙ ap (λ s. good_count s (ready_count scan)) good
-
       was : IsShape (functions_of kinds) (take (ready_count scan) h) Good
       was = subst (IsShape (functions_of kinds) (take (ready_count scan) h)) good right.shaped
 
-  module _ (decided : EventsDecideStatuses) (others : OtherStatusesStay) (good_where : NoCauseIsGood) where
-    -- one more event, that is not bad
-    pub right_next : (kinds : Item → Kind) (h : List Event) (old : Scan) (table : Statuses) (event : Event) → IsRight old kinds h → old.shape ≡ Good → IsEvent h (ready_count old) event
-        → ((cause : Cause) → Holds (functions_of kinds) (status_at old.table (count_in old.table) event.process) event cause → ⊥) → count_in table ≡ count_in old.table + 1
-        → ((k process : ℕ) → k ≤ count_in old.table → status_at table k process ≡ status_at old.table k process)
-        → ((process : ℕ) → status_at table (count_in old.table + 1) process ≡ cond (nat_eq event.process process) (left_by event) (status_at old.table (count_in old.table) process))
-        → IsRight (record { ready = ready_count old + 1; shape = old.shape; table = table }) kinds h
-    right_next kinds h old table event right good stands none count before after = record {
-      within = let inside = slice_get_within h (ready_count old) event stands in omega arith;
-      shaped = subst (IsShape (functions_of kinds) (take (ready_count old + 1) h)) (sym good) good_next;
-      counted = count ∙ ap (λ n. n + 1) so_far.all ∙ ap (λ s. good_count s (ready_count old + 1)) (sym good);
-      listed = listed_next decided others h event old.table table (subst (λ n. IsEvent h n event) (sym so_far.all) stands) count before after right.listed;
-    }
-      where
-        so_far : Before kinds h old event
-        so_far = before_event kinds h old event right good
-
-        good_next : (k : ℕ) (cause : Cause) → IsBad (functions_of kinds) (take (ready_count old + 1) h) k cause → ⊥
-        good_next k cause bad =
-            let there = (beginnings (functions_of kinds) h (ready_count old + 1) k cause).0 bad in
-            elim (cases_lt k (ready_count old)) [
-              | inl before ↦ so_far.good k cause before there.1
-              | inr from ↦
-                  let below : k < ready_count old + 1 = there.0 in
-                  let here : k ≡ ready_count old = omega arith in
-                  good_where (functions_of kinds) h (ready_count old) event (status_at old.table (count_in old.table) event.process) stands so_far.found none cause
-                  (subst (λ n. IsBad (functions_of kinds) h n cause) here there.1)
-            ]
-
-  -- one more event, that is bad: its table is as the one before it
-  pub right_bad : (kinds : Item → Kind) (h : List Event) (old : Scan) (table : Statuses) (event : Event) (cause : Cause) → IsRight old kinds h → old.shape ≡ Good → IsEvent h (ready_count old) event
-      → IsFirstCause (functions_of kinds) (status_at old.table (count_in old.table) event.process) event cause → count_in table ≡ count_in old.table
-      → ((k process : ℕ) → k ≤ count_in old.table → status_at table k process ≡ status_at old.table k process)
-      → IsRight (record { ready = ready_count old + 1; shape = Bad (ready_count old) cause; table = table }) kinds h
-  right_bad kinds h old table event cause right good stands caused count same = record {
+  -- one more event, that is not bad
+  pub right_next : NoCauseIsGood → (kinds : Item → Kind) (h : List Event) (old : Scan) (table : List ℕ) (event : Event) (status : ProcessStatus) → IsRight old kinds h → old.shape ≡ Good → IsEvent h (ready_count old) event
+      → IsStatus (take (ready_count old) h) event.process status → ((cause : Cause) → Holds (functions_of kinds) status event cause → ⊥) → table ≡ old.table ++ event.process ∷ []
+      → IsRight (record { ready = ready_count old + 1; shape = old.shape; table = table }) kinds h
+  right_next good_where kinds h old table event status right good stands found none taken = record {
     within = let inside = slice_get_within h (ready_count old) event stands in omega arith;
-    shaped = (
-      bad_shorter (functions_of kinds) h (ready_count old + 1) (ready_count old) cause (omega arith) (record { event = event; stands = stands; status = _; found = so_far.found; caused = caused }),
-      λ k other below bad. so_far.good k other below (bad_longer (functions_of kinds) h (ready_count old + 1) k other bad),
-    );
-    counted = count ∙ so_far.all;
-    listed = λ k process upto.
-        let within : k ≤ count_in old.table = omega arith in
-        subst (IsStatus (take k h) process) (sym (same k process within)) (right.listed k process within);
+    shaped = subst (IsShape (functions_of kinds) (take (ready_count old + 1) h)) (sym good) good_next;
+    counted = count ∙ ap (λ s. good_count s (ready_count old + 1)) (sym good);
+    listed = taken ∙ ap (λ l. l ++ event.process ∷ []) (right.listed ∙ ap (λ n. processes_of (take n h)) so_far.all)
+        ∙ sym (processes_next h (ready_count old) event stands) ∙ ap (λ n. processes_of (take n h)) (sym count);
   }
     where
-      so_far : Before kinds h old event
-      so_far = before_event kinds h old event right good
+      so_far : Before kinds h old
+      so_far = before_event kinds h old right good
+
+      count : length table ≡ ready_count old + 1
+      count = let long = ap length taken ∙ length_push old.table event.process in let all = so_far.all in omega arith
+
+      good_next : (k : ℕ) (cause : Cause) → IsBad (functions_of kinds) (take (ready_count old + 1) h) k cause → ⊥
+      good_next k cause bad =
+          let there = (beginnings (functions_of kinds) h (ready_count old + 1) k cause).0 bad in
+          elim (cases_lt k (ready_count old)) [
+            | inl before ↦ so_far.good k cause before there.1
+            | inr from ↦
+                let below : k < ready_count old + 1 = there.0 in
+                let here : k ≡ ready_count old = omega arith in
+                good_where (functions_of kinds) h (ready_count old) event status stands found none cause (subst (λ n. IsBad (functions_of kinds) h n cause) here there.1)
+          ]
+
+  -- one more event, that is bad: the table is as it was
+  pub right_bad : (kinds : Item → Kind) (h : List Event) (old : Scan) (table : List ℕ) (event : Event) (status : ProcessStatus) (cause : Cause) → IsRight old kinds h → old.shape ≡ Good → IsEvent h (ready_count old) event
+      → IsStatus (take (ready_count old) h) event.process status → IsFirstCause (functions_of kinds) status event cause → table ≡ old.table
+      → IsRight (record { ready = ready_count old + 1; shape = Bad (ready_count old) cause; table = table }) kinds h
+  right_bad kinds h old table event status cause right good stands found caused same = record {
+    within = let inside = slice_get_within h (ready_count old) event stands in omega arith;
+    shaped = (
+      bad_shorter (functions_of kinds) h (ready_count old + 1) (ready_count old) cause (omega arith) (record { event = event; stands = stands; status = status; found = found; caused = caused }),
+      λ k other below bad. so_far.good k other below (bad_longer (functions_of kinds) h (ready_count old + 1) k other bad),
+    );
+    counted = ap length same ∙ so_far.all;
+    listed = same ∙ right.listed ∙ ap (λ l. processes_of (take (length l) h)) (sym same);
+  }
+    where
+      so_far : Before kinds h old
+      so_far = before_event kinds h old right good
 
   -- behind a bad event, any more or less can be taken in
   pub right_past : (kinds : Item → Kind) (h : List Event) (scan : Scan) (n at : ℕ) (cause : Cause) → IsRight scan kinds h → scan.shape ≡ Bad at cause → at < n → n ≤ length h → IsRight (record scan { ready = n }) kinds h
@@ -181,19 +146,20 @@ module _ (beginnings : BadWithinBeginnings) where
       by (Bad at cause) is = right_past kinds h scan (length h) at cause right is (omega (arith, right.within, bad_taken kinds h scan at cause right is)) (omega arith)
 
   -- events are taken back as far as the bad one, or further: none is bad then
-  pub right_fewer : (kinds : Item → Kind) (h : List Event) (scan : Scan) (n : ℕ) (table : Statuses) → IsRight scan kinds h → n ≤ count_in scan.table → count_in table ≡ n
-      → ((k process : ℕ) → k ≤ n → status_at table k process ≡ status_at scan.table k process) → IsRight (record { ready = n; shape = Good; table = table }) kinds h
-  right_fewer kinds h scan n table right upto count before = record {
+  pub right_fewer : (kinds : Item → Kind) (h : List Event) (scan : Scan) (n : ℕ) (table : List ℕ) → IsRight scan kinds h → n ≤ length scan.table → table ≡ take n scan.table
+      → IsRight (record { ready = n; shape = Good; table = table }) kinds h
+  right_fewer kinds h scan n table right upto fewer = record {
     within = let most = table_within kinds h scan right in omega (arith, right.within);
     shaped = λ k cause bad.
         let there = (beginnings (functions_of kinds) h n k cause).0 bad in
         none_before scan.shape refl k cause there.0 there.1;
     counted = count;
-    listed = λ k process below.
-        let within : k ≤ n = omega arith in
-        subst (IsStatus (take k h) process) (sym (before k process within)) (right.listed k process (omega arith));
+    listed = fewer ∙ ap (take n) right.listed ∙ take-map (λ (e : Event). e.process) n (take (length scan.table) h) ∙ ap processes_of (take-take n (length scan.table) h upto) ∙ ap (λ m. processes_of (take m h)) (sym count);
   }
     where
+      count : length table ≡ n
+      count = ap length fewer ∙ length-take-le n scan.table upto
+
       none_before : (shape : Shape) → scan.shape ≡ shape → (k : ℕ) (cause : Cause) → k < n → IsBad (functions_of kinds) h k cause → ⊥
       none_before Good good k cause below bad =
           let was : IsShape (functions_of kinds) (take (ready_count scan) h) Good = subst (IsShape (functions_of kinds) (take (ready_count scan) h)) good right.shaped in
@@ -206,7 +172,7 @@ module _ (beginnings : BadWithinBeginnings) where
           was.1 k cause (omega arith) (bad_shorter (functions_of kinds) h (ready_count scan) k cause (omega arith) bad)
 
   -- or not as far: the bad one stays
-  pub right_behind : (kinds : Item → Kind) (h : List Event) (scan : Scan) (n : ℕ) → IsRight scan kinds h → count_in scan.table < n → n ≤ ready_count scan → IsRight (record scan { ready = n }) kinds h
+  pub right_behind : (kinds : Item → Kind) (h : List Event) (scan : Scan) (n : ℕ) → IsRight scan kinds h → length scan.table < n → n ≤ ready_count scan → IsRight (record scan { ready = n }) kinds h
   right_behind kinds h scan n right behind upto = by scan.shape refl
     where
       by : (shape : Shape) → scan.shape ≡ shape → IsRight (record scan { ready = n }) kinds h
@@ -225,9 +191,7 @@ right_alike same_shape at kinds other h edited scan upto agree right = record {
   within = omega (arith, length-take-le (ready_count scan) h right.within, ap length same, length-take (ready_count scan) edited);
   shaped = subst (λ l. IsShape (functions_of other) l scan.shape) same (same_shape (functions_of kinds) (functions_of other) (take (ready_count scan) h) scan.shape (λ k event stands. ap (λ kind. allows kind) (alike k event stands)) right.shaped);
   counted = right.counted;
-  listed = λ k process upto_table.
-      let most = table_within kinds h scan right in
-      subst (λ l. IsStatus l process (status_at scan.table k process)) (same_to k (omega arith)) (right.listed k process upto_table);
+  listed = right.listed ∙ ap processes_of (same_to (length scan.table) (let most = table_within kinds h scan right in omega arith));
 }
   where
     same_to : (n : ℕ) → n ≤ at → take n h ≡ take n edited

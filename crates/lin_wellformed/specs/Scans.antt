@@ -1,5 +1,5 @@
 -- What a scan knows of a history: its first events, as many as the scan took in.
-use Rattle.std.specs.Prelude.{◌≡◌, ◌+◌, ◌<◌, ◌≤◌, ℕ, List, length, take}
+use Rattle.std.specs.Prelude.{◌≡◌, ◌+◌, ◌<◌, ◌≤◌, ℕ, List, length, map, take}
 use Rattle.lin_events.specs.declared.items.Item.{Item}
 use Rattle.lin_events.specs.declared.events.Event.{Event}
 use Rattle.lin_events.specs.Operations.{IsEvent}
@@ -8,8 +8,7 @@ use Rattle.lin_objects.specs.Kinds.{functions_of}
 use Rattle.lin_wellformed.specs.declared.scan.Scan.{Scan}
 use Rattle.lin_events.specs.declared.shapes.Shape.{Shape}
 use Rattle.lin_events.specs.declared.shapes.Shape.TheVariants.{Good, Bad}
-use Rattle.lin_wellformed.specs.Tables.{count_in, status_at}
-use Rattle.lin_events.specs.WellFormed.{IsShape, IsStatus}
+use Rattle.lin_events.specs.WellFormed.{IsShape}
 
 -- how many events the scan took in
 abbrev pub ready_count : Scan → ℕ
@@ -20,12 +19,16 @@ abbrev pub good_count : Shape → ℕ → ℕ
 good_count Good count = count
 good_count (Bad at cause) count = at
 
--- the scan has the shape of the events that it took in; its table has those before the bad one, and what each process was after each of them
+-- the process of each event
+abbrev pub processes_of : List Event → List ℕ
+processes_of = map (λ (event : Event). event.process)
+
+-- the scan has the shape of the events that it took in; its table has the processes of those before the bad one
 pub record IsRight (scan : Scan) (kinds : Item → Kind) (h : List Event) : Type 0 where
   pub within : ready_count scan ≤ length h
   pub shaped : IsShape (functions_of kinds) (take (ready_count scan) h) scan.shape
-  pub counted : count_in scan.table ≡ good_count scan.shape (ready_count scan)
-  pub listed : (k process : ℕ) → k ≤ count_in scan.table → IsStatus (take k h) process (status_at scan.table k process)
+  pub counted : length scan.table ≡ good_count scan.shape (ready_count scan)
+  pub listed : scan.table ≡ processes_of (take (length scan.table) h)
 
 -- the two histories have the same events before the position, and their kinds agree on the keys of these
 pub record AgreeBefore (at : ℕ) (kinds other : Item → Kind) (h edited : List Event) : Type 0 where

@@ -2,6 +2,9 @@
 #![tactic(auto)]
 
 mod backward;
+mod codes;
+mod last_events;
+mod numbers;
 mod scan;
 mod statuses;
 mod tables;

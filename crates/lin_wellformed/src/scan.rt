@@ -9,9 +9,9 @@ ghost use Rattle.lin_objects.specs.declared.kinds.Kind.{Kind as KindOf};
 ghost use Rattle.lin_objects.specs.Kinds.{kind_of, functions_of};
 ghost use Rattle.lin_wellformed.specs.Scans.{ready_count, IsRight, AgreeBefore, looked_at};
 
-use crate::statuses::first_cause;
+use crate::statuses::{first_cause, status_behind};
 use crate::tables::Table;
-use lin_events::{Event, Meter, OutOfMemory, Shape, bad_positions, statuses_after_events};
+use lin_events::{Event, Meter, OutOfMemory, Shape, bad_positions};
 use lin_objects::Kinds;
 use std::alloc::Global;
 
@@ -94,24 +94,26 @@ impl Scan {
         bad_positions();
         while self.ready < events.len() && self.shape.is_good() {
             meter.tick_scan();
-            self.take_in(&events[self.ready], kinds)?;
+            self.take_in(events, kinds)?;
         }
         self.ready = events.len();
         Ok(self.shape)
     }
 
     /// Takes in one more event after good ones.
-    fn take_in(&mut self, event: &Event, kinds: &Kinds) -> Result<(), OutOfMemory>
-        requires room { ready_count self.old < usize.MAX }
+    fn take_in(&mut self, events: &[Event], kinds: &Kinds) -> Result<(), OutOfMemory>
+        requires more { ready_count self.old < length events.now }
         requires good { self.old.shape ≡ Shape.Good }
+        requires right { IsRight self.old (kind_of kinds.now) events.now }
         ensures ready { OnOk result (ready_count self.new ≡ ready_count self.old + 1) }
         ensures looked { OnOk result (looked_at self.new.shape (ready_count self.new) ≡ ready_count self.old + 1) }
-        ensures right { OnOk result ((h : List EventOf) → IsRight self.old (kind_of kinds.now) h → IsEvent h (ready_count self.old) event.now → IsRight self.new (kind_of kinds.now) h) }
+        ensures right { OnOk result (IsRight self.new (kind_of kinds.now) events.now) }
         ensures err { OnErr result (self.new ≡ self.old) }
     {
         bad_positions();
-        statuses_after_events();
-        let status = self.table.take_in(event)?;
+        let event = &events[self.ready];
+        let last = self.table.take_in(event.process)?;
+        let status = status_behind(&events[..self.ready], last);
         // A bad event is taken back: to ask for the status first would take one more look-up for each good one.
         if let Some(cause) = first_cause(status, event, kinds) {
             self.table.take_back();

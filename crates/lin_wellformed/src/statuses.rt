@@ -1,11 +1,13 @@
 //! What processes are between their events, and which events are bad for them.
-ghost use Rattle.std.specs.Prelude.{◌≡◌, Bool};
+ghost use Rattle.std.specs.Prelude.{◌≡◌, ◌<◌, ℕ, Bool, Some, length};
 ghost use Rattle.lin_events.specs.declared.items.Item.{Item as ItemOf};
 ghost use Rattle.lin_events.specs.declared.events.Body.TheVariants.{Invoke};
 ghost use Rattle.lin_events.specs.declared.events.Event.{Event as EventOf};
 ghost use Rattle.lin_events.specs.declared.calls.Name.{Name as NameOf};
 ghost use Rattle.lin_events.specs.WellFormed.{left_by, IsStatus, Completes, IsVerdict};
 ghost use Rattle.lin_objects.specs.Kinds.{kind_of, functions_of};
+ghost use Rattle.lin_wellformed.specs.Scans.{processes_of};
+ghost use Rattle.lin_wellformed.specs.Tables.{IsLastPlace};
 
 use lin_events::{Body, Call, Cause, Event, Item, Name, ProcessStatus};
 use lin_objects::{Any, Kinds, SeqObject};
@@ -35,6 +37,17 @@ pub fn status_at_end(events: &[Event], process: u64) -> ProcessStatus
         }
     }
     ProcessStatus::Idle
+}
+
+/// What a process is after the events, where it has its last one at this place, or has none.
+pub fn status_behind(events: &[Event], last: Option<usize>) -> ProcessStatus
+    requires { (at : ℕ) → last ≡ Some at → at < length events.now }
+    ensures { (process : ℕ) → IsLastPlace (processes_of events.now) process last → IsStatus events.now process result }
+{
+    match last {
+        Some(at) => status_after(&events[at]),
+        None => ProcessStatus::Idle,
+    }
 }
 
 /// The first cause for which the event is bad, where its process is this before it.

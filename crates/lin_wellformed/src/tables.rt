@@ -1,103 +1,76 @@
-//! What each process is, looked up in near-constant time, and taken back event by event.
-ghost use Rattle.std.specs.Prelude.{◌≡◌, ◌+◌, ◌<◌, ◌≤◌, min, ℕ, IfOk, OnOk, OnErr, nat_eq, if◌then◌else◌};
-ghost use Rattle.lin_events.specs.WellFormed.{left_by};
-ghost use Rattle.lin_wellformed.specs.Tables.{count_in, status_at};
+//! Where each process has its last event, found in near-constant time, and taken back event by event.
+ghost use Rattle.std.specs.Prelude.{◌≡◌, ◌<◌, ◌∷◌, ◌++◌, [], ℕ, IfOk, OnOk, OnErr, length, take};
+ghost use Rattle.lin_wellformed.specs.Tables.{IsLastPlace};
 
-use crate::statuses::status_after;
-use lin_events::{Event, OutOfMemory, ProcessStatus};
+use crate::last_events::LastEvents;
+use crate::numbers::Numbers;
+use lin_events::OutOfMemory;
 use std::alloc::Global;
-use std::collections::HashMap;
 use std::marker::Model;
 
-/// What one event changed: its process, and what that was before it.
-#[derive(Clone, Copy)]
-pub(crate) struct Change {
-    process: u64,
-    before: ProcessStatus,
-}
-
-/// What each process is after some events, and what each of these events changed.
+/// Where each process has its last event among some events.
 ///
-/// Every process that changed is listed, so that taking events back needs no memory.
+/// Of each event eight bytes are kept. Every process that had an event stays listed, so that taking events back needs no memory.
 #[derive(Drop)]
 pub(crate) struct Table {
-    processes: HashMap<u64, ProcessStatus>,
-    changes: Vec<Change>,
+    numbers: Numbers,
+    events: LastEvents,
 }
 
 impl Model for Table {
-    ghost use Rattle.lin_wellformed.specs.Tables.{Statuses, AreListed};
+    ghost use Rattle.std.specs.Prelude.{ℕ, List};
+    ghost use Rattle.lin_wellformed.specs.Tables.{AreListed, processes_in};
 
-    ghost Value = { Statuses };
+    ghost Value = { List ℕ };
 
-    ghost view = { λ t. record { listed = t.processes.entries; changes = t.changes.items } };
+    ghost view = { λ t. processes_in t.numbers t.events };
 
-    ghost invariant = { λ t. AreListed t.processes.entries t.changes.items };
+    ghost invariant = { λ t. AreListed t.numbers t.events };
 }
 
 impl Table {
-    /// Before any event, each process is idle.
+    /// No event.
     pub(crate) fn new(alloc: Global) -> Table
-        ensures count { count_in result ≡ 0 }
-        ensures idle { (process : ℕ) → status_at result 0 process ≡ ProcessStatus.Idle }
+        ensures { result ≡ [] }
     {
         Table {
-            processes: HashMap::new(alloc),
-            changes: Vec::new(alloc),
+            numbers: Numbers::new(alloc),
+            events: LastEvents::new(alloc),
         }
     }
 
     /// How many events were taken in.
     pub(crate) fn count(&self) -> usize
-        ensures { result ≡ count_in self.now }
+        ensures { result ≡ length self.now }
     {
-        self.changes.len()
+        self.events.len()
     }
 
-    /// One more event: its process is what the event leaves it as. Tells what that was before.
-    pub(crate) fn take_in(&mut self, event: &Event) -> Result<ProcessStatus, OutOfMemory>
-        ensures was { IfOk result (λ status. status ≡ status_at self.old (count_in self.old) event.now.process) }
-        ensures count { OnOk result (count_in self.new ≡ count_in self.old + 1) }
-        ensures before { OnOk result ((k process : ℕ) → k ≤ count_in self.old → status_at self.new k process ≡ status_at self.old k process) }
-        ensures after { OnOk result ((process : ℕ) → status_at self.new (count_in self.old + 1) process ≡ (if nat_eq event.now.process process then left_by event.now else status_at self.old (count_in self.old) process)) }
+    /// One more event, of this process. Tells where the process had its last event before.
+    pub(crate) fn take_in(&mut self, process: u64) -> Result<Option<usize>, OutOfMemory>
+        ensures last { IfOk result (IsLastPlace self.old process) }
+        ensures taken { OnOk result (self.new ≡ self.old ++ process ∷ []) }
         ensures err { OnErr result (self.new ≡ self.old) }
     {
-        if self.changes.reserve(1).is_err() {
-            return Err(OutOfMemory);
-        }
-        match self.processes.insert(event.process, status_after(event)) {
-            Ok(before) => {
-                let before = before.unwrap_or(ProcessStatus::Idle);
-                self.changes.push_reserved(Change {
-                    process: event.process,
-                    before,
-                });
-                Ok(before)
-            }
-            Err(_) => Err(OutOfMemory),
-        }
+        let number = self.numbers.number(process)?;
+        let last = self.events.push(number)?;
+        Ok(last)
     }
 
     /// Takes events back, the last one first, until no more than so many are left.
     pub(crate) fn cut(&mut self, count: usize)
-        ensures count { count_in self.new ≡ min count (count_in self.old) }
-        ensures before { (k process : ℕ) → k ≤ count → status_at self.new k process ≡ status_at self.old k process }
+        ensures { self.new ≡ take count self.old }
     {
         while count < self.count() {
             self.take_back();
         }
     }
 
-    /// Takes the last event back: its process is again what it was before it.
+    /// Takes the last event back.
     pub(crate) fn take_back(&mut self)
-        requires { 0 < count_in self.old }
-        ensures count { count_in self.new + 1 ≡ count_in self.old }
-        ensures before { (k process : ℕ) → k < count_in self.old → status_at self.new k process ≡ status_at self.old k process }
+        requires { 0 < length self.old }
+        ensures { (process : ℕ) × (self.old ≡ self.new ++ process ∷ []) }
     {
-        if let Some(change) = self.changes.pop() {
-            if let Some(status) = self.processes.get_mut(&change.process) {
-                *status = change.before;
-            }
-        }
+        self.events.pop();
     }
 }

@@ -1,5 +1,5 @@
--- Bags have no legal order of operations that conflict.
-use Rattle.std.proofs.Common.{◌≡◌, ◌+◌, ◌<◌, ◌⊎◌, ℕ, Bool, true, false, cond, List, [], ◌∷◌, Contains, Ordering, Less, Equal, Greater, inl, inr, refl, sym, ap, subst, ◌∙◌, arith}
+-- How often items are in a bag.
+use Rattle.std.proofs.Common.{◌≡◌, ◌+◌, ◌⊎◌, ℕ, Bool, true, false, cond, List, [], ◌∷◌, Contains, Ordering, Less, Equal, Greater, inl, inr, refl, sym, ap, subst, ◌∙◌, arith}
 use Rattle.std.specs.Ordering.{match_ordering}
 use Rattle.std.proofs.lemmas.Bool.{true≢false}
 use Rattle.std.proofs.lemmas.List.Elements.{Contains-append_right}
@@ -12,18 +12,15 @@ use Rattle.lin_events.specs.declared.calls.Call.TheVariants.{Enqueue, Dequeue}
 use Rattle.lin_events.specs.declared.calls.Reply.{Reply}
 use Rattle.lin_events.specs.declared.calls.Reply.TheVariants as Replied
 use Rattle.lin_events.specs.declared.calls.Val.TheVariants.{Nil, Item as Held}
-use Rattle.lin_events.specs.declared.events.Event.{Event}
 use Rattle.lin_objects.specs.Bags.{bag_of, with_one, without_one}
 use Rattle.lin_objects.specs.declared.kinds.Kind.TheVariants.{Bag}
 use Rattle.lin_objects.specs.declared.states.State.{State}
 use Rattle.lin_objects.specs.declared.states.State.TheVariants.{Bag as Bagged}
 use Rattle.lin_objects.specs.Steps.{Step}
-use Rattle.lin_order.specs.declared.placed.Placed.{Placed}
-use Rattle.lin_order.specs.Linearizable.{IsLegalOrderAs}
 use Rattle.lin_certificates.specs.Adding.{Adds}
-use Rattle.lin_certificates.specs.BagConflicts.{AtLeast, AtMost, FoundNothing, MayPut, MayTakeBy, OfOne, PutBefore, Took}
+use Rattle.lin_certificates.specs.Numbers.{OfOne}
 use Rattle.lin_certificates.specs.QueueConflicts.{Takes}
-use Rattle.lin_certificates.specs.lemmas.Counting.{Changes, left_inside, overtaken}
+use Rattle.lin_certificates.specs.lemmas.Counting.{Changes}
 
 -- whether the item is one of these
 pub is_in : List Item → Item → Bool
@@ -134,11 +131,3 @@ empties (Bagged (x ∷ q)) next ns step = absurd (apart step.0 step.3)
     apart : (y : Item) → Replied.Value Nil ≡ Replied.Value (Held y) → ⊥
     apart y e = cc
 empties s next ns step = absurd step
-
-module _ (h : List Event) (order : List Placed) (legal : IsLegalOrderAs Bag h order) where
-  pub bag_overtaken : (n : Item) (puts takes : ℕ) → AtMost puts (MayPut h n) → AtLeast takes (Took h n) → puts < takes → ⊥
-  bag_overtaken = overtaken Bag inside changes h (λ ns. refl) order legal
-
-  pub bag_inside : (ns : List Item) (at end puts takes : ℕ)
-      → FoundNothing h at end → AtMost takes (λ x. OfOne ns (λ n. MayTakeBy h n end x)) → AtLeast puts (λ x. OfOne ns (λ n. PutBefore h n at x)) → takes < puts → ⊥
-  bag_inside = left_inside Bag inside changes h (λ ns. refl) order legal empties

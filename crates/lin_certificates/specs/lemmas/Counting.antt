@@ -1,31 +1,24 @@
 -- How often items are put in and taken out, in an order that an object runs through.
-use Rattle.std.proofs.Common.{◌≡◌, ◌≢◌, ◌<◌, ◌≤◌, ◌+◌, ℕ, suc, List, [], ◌∷◌, ◌++◌, ◌⊎◌, AllPairs, Contains, length, inl, inr, refl, sym, ap, subst, ◌∙◌, arith, length-append, append_assoc}
+use Rattle.std.proofs.Common.{◌≡◌, ◌≢◌, ◌<◌, ◌≤◌, ◌+◌, ℕ, suc, List, [], ◌∷◌, ◌++◌, ◌⊎◌, AllPairs, Contains, length, inl, inr, refl, sym, ap, subst, ◌∙◌, arith, length-append}
 use Rattle.std.proofs.lemmas.Bool.{cases_lt}
 use Rattle.std.proofs.lemmas.List.Elements.{All-contains, Contains-append_cases, Contains-append_left, Contains-append_right}
 use Rattle.std.proofs.lemmas.List.Kept.{AllPairs-cons}
 use Rattle.lin_events.specs.declared.items.Item.{Item}
-use Rattle.lin_lists.specs.lemmas.Elements.{all_of, first_or_rest, nothing_in, pairs_left}
+use Rattle.lin_lists.specs.lemmas.Elements.{all_of, first_or_rest, nothing_in}
 use Rattle.lin_events.specs.declared.calls.Call.{Call}
-use Rattle.lin_events.specs.declared.calls.Call.TheVariants.{Dequeue}
 use Rattle.lin_events.specs.declared.calls.Reply.{Reply}
-use Rattle.lin_events.specs.declared.calls.Reply.TheVariants as Replied
-use Rattle.lin_events.specs.declared.calls.Val.TheVariants.{Nil}
 use Rattle.lin_events.specs.declared.events.Event.{Event}
-use Rattle.lin_events.specs.Operations.{IsFailed}
 use Rattle.lin_objects.specs.declared.kinds.Kind.{Kind}
 use Rattle.lin_objects.specs.declared.states.State.{State}
-use Rattle.lin_objects.specs.Steps.{Step, start}
+use Rattle.lin_objects.specs.Steps.{Step}
 use Rattle.lin_order.specs.declared.placed.Placed.{Placed}
-use Rattle.lin_order.specs.Linearizable.{IsLegalOrderBy, Runs}
-use Rattle.lin_order.specs.Orders.{IsBefore, IsCall}
-use Rattle.lin_order.specs.lemmas.Assembling.{one_reply}
+use Rattle.lin_order.specs.Linearizable.{Runs}
+use Rattle.lin_order.specs.Orders.{IsCall}
 use Rattle.lin_order.specs.lemmas.OneEnd.{one_call}
-use Rattle.lin_order.specs.lemmas.Running.{runs_split}
 use Rattle.lin_certificates.specs.Adding.{Adds}
-use Rattle.lin_certificates.specs.BagConflicts.{AtLeast, AtMost, FoundNothing, MayPut, MayTakeBy, OfOne, PutBefore, Took}
+use Rattle.lin_certificates.specs.Numbers.{AtLeast, AtMost, OfOne}
 use Rattle.lin_certificates.specs.QueueConflicts.{Takes}
 use Rattle.lin_certificates.specs.lemmas.Conflicting.{across, parted}
-use Rattle.lin_certificates.specs.lemmas.QueueConflicting.{one_alone, takes_call}
 
 pub pairs_rest : {A : Type 0} (R : A → A → Type 0) (x : A) (xs : List A) → AllPairs R (x ∷ xs) → AllPairs R xs
 pairs_rest R x xs all i j d before within = all (suc i) (suc j) d (omega (arith, before)) (omega (arith, within))
@@ -184,88 +177,3 @@ module _ (kind : Kind) (inside : State → List Item → ℕ) (each : (s next : 
               (rest.0, rest.1, chosen_other (Puts h ns) q order rest.0 rest.2 (no_put neither.0), chosen_other (TakesOut h ns) q order rest.1 rest.3 (no_take neither.1), omega (arith, same, sum))
         ]
       ]
-
-  module _ (begins : (items : List Item) → inside (start kind) items ≡ 0) (order : List Placed) (legal : IsLegalOrderBy (start kind) (Step kind) h order) where
-    none_failed : (p : Placed) → Contains order p → IsFailed h p.at → ⊥
-    none_failed p there = All-contains (λ (x : Placed). IsFailed h x.at → ⊥) order p legal.order_of.none_failed there
-
-    -- no item is taken out more often than it is put in
-    pub overtaken : (n : Item) (puts takes : ℕ) → AtMost puts (MayPut h n) → AtLeast takes (Took h n) → puts < takes → ⊥
-    overtaken n puts takes most least fewer =
-        let ns = n ∷ [] in
-        let all = counted (start kind) legal.legal.0 ns order legal.order_of.once legal.legal.1 in
-        let none = begins ns in
-        let sum = all.4 in
-        let few = chosen_most (Puts h ns) order all.0 all.2 (MayPut h n)
-        (λ p there is. (is.0, is.1, subst (Adds is.0) (sym (one_alone n is.2.0 is.2.1)) is.2.2, none_failed p there)) puts most in
-        let many = chosen_least (TakesOut h ns) order all.1 all.3 (Took h n)
-        (λ at took. (record { at = at; reply = took.1.1 }, legal.order_of.each_ok at took.0 took.1.1 tt took.1.3, (took.1.0, took.1.2, (n, (0, omega arith, refl), took.1.4)), refl)) takes least in
-        omega (arith, none, sum, few, many, fewer)
-
-    -- round a dequeue that found nothing
-    module _ (ns : List Item) (before after : List Placed) (d : Placed) (split : order ≡ before ++ d ∷ after) (end : ℕ) (found : FoundNothing h d.at end) where
-      real_time : AllPairs (λ x y. IsBefore h y.at x.at → ⊥) (before ++ d ∷ after)
-      real_time = subst (AllPairs (λ x y. IsBefore h y.at x.at → ⊥)) split legal.order_of.real_time
-
-      early : (p : Placed) → Contains before p → Contains order p
-      early p there = subst (λ l. Contains l p) (sym split) (Contains-append_left before (d ∷ after) p there)
-
-      -- what is put in before it was invoked is put in ahead of it
-      put_ahead : (at : ℕ) → OfOne ns (λ n. PutBefore h n d.at at) → (p : Placed) × Contains before p × Puts h ns p × (p.at ≡ at)
-      put_ahead at one =
-          let n = one.0 in
-          let put = one.2 in
-          let p : Placed = record { at = at; reply = put.1.1 } in
-          let there = subst (λ l. Contains l p) split (legal.order_of.each_ok at put.0 put.1.1 tt put.1.3) in (
-            p,
-            elim (Contains-append_cases before (d ∷ after) p there) [
-              | inl ahead ↦ ahead
-              | inr behind ↦ elim (first_or_rest d after p behind) [
-                | inl same ↦ absurd (subst (λ c. Adds c n) (one_call h d.at put.1.0 Dequeue (subst (λ (x : Placed). IsCall h x.at put.1.0) (sym same) put.1.2) found.0) put.1.4)
-                | inr later ↦
-                    let apart = subst (AllPairs (λ (x y : Placed). IsBefore h y.at x.at → ⊥)) (sym (append_assoc before (d ∷ []) after)) real_time in
-                    absurd (across (λ x y. IsBefore h y.at x.at → ⊥) (before ++ d ∷ []) after d p apart (Contains-append_right before (d ∷ []) d (0, omega arith, refl)) later (put.0, put.1.1, put.1.3, put.2))
-              ]
-            ],
-            (put.1.0, put.1.2, (n, one.1, put.1.4)),
-            refl,
-          )
-
-      -- what is taken out ahead of it was invoked before it returned
-      taken_ahead : (p : Placed) → Contains before p → TakesOut h ns p → OfOne ns (λ n. MayTakeBy h n end p.at)
-      taken_ahead p there is =
-          let n = is.2.0 in
-          let call = takes_call is.0 p.reply n is.2.2 in (
-            n,
-            is.2.1,
-            (
-              elim (cases_lt end p.at) [
-                | inl later ↦ absurd (across (λ x y. IsBefore h y.at x.at → ⊥) before (d ∷ after) p d real_time there (0, omega arith, refl) (end, Replied.Value Nil, found.1, later))
-                | inr sooner ↦ sooner
-              ],
-              subst (IsCall h p.at) call is.1,
-              λ left. elim left [
-                | inl failed ↦ none_failed p (early p there) failed
-                | inr known ↦
-                    let same = one_reply order legal.order_of.once p (record { at = p.at; reply = known.1 }) (early p there) (legal.order_of.each_ok p.at known.0 known.1 tt known.2) refl in
-                    known.3 (subst (λ r. Takes Dequeue r n) same (subst (λ c. Takes c p.reply n) call is.2.2))
-              ],
-            ),
-          )
-
-    -- ahead of a dequeue that found nothing, as many of the items were taken out as put in
-    pub left_inside : (empties : (s next : State) (items : List Item) → Step kind s Dequeue next (Replied.Value Nil) → inside s items ≡ 0) (ns : List Item) (at end puts takes : ℕ)
-        → FoundNothing h at end → AtMost takes (λ x. OfOne ns (λ n. MayTakeBy h n end x)) → AtLeast puts (λ x. OfOne ns (λ n. PutBefore h n at x)) → takes < puts → ⊥
-    left_inside empties ns at end puts takes found most least fewer =
-        let d : Placed = record { at = at; reply = Replied.Value Nil } in
-        let parts = parted order d (legal.order_of.each_ok at end (Replied.Value Nil) tt found.1) in
-        let run = runs_split (Step kind) h (start kind) legal.legal.0 parts.0 (d ∷ parts.1) (subst (λ l. Runs (Step kind) h (start kind) l legal.legal.0) parts.2 legal.legal.1) in
-        let step = subst (λ c. Step kind run.0 c run.2.1 (Replied.Value Nil)) (one_call h at run.2.0 Dequeue run.2.2 found.0) run.2.3 in
-        let empty = empties run.0 run.2.1 ns step in
-        let once = pairs_left (λ (x y : Placed). x.at ≢ y.at) parts.0 (d ∷ parts.1) (subst (AllPairs (λ x y. x.at ≢ y.at)) parts.2 legal.order_of.once) in
-        let all = counted (start kind) run.0 ns parts.0 once run.1 in
-        let none = begins ns in
-        let sum = all.4 in
-        let many = chosen_least (Puts h ns) parts.0 all.0 all.2 (λ x. OfOne ns (λ n. PutBefore h n at x)) (put_ahead ns parts.0 parts.1 d parts.2 end found) puts least in
-        let few = chosen_most (TakesOut h ns) parts.0 all.1 all.3 (λ x. OfOne ns (λ n. MayTakeBy h n end x)) (taken_ahead ns parts.0 parts.1 d parts.2 end found) takes most in
-        omega (arith, none, empty, sum, few, many, fewer)

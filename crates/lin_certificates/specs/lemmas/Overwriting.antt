@@ -1,4 +1,4 @@
--- Registers have no legal order where what an operation needs was overwritten.
+-- Registers have no legal order where what an operation needs is stale.
 use Rattle.std.proofs.Common.{◌≡◌, ◌≢◌, ◌⊎◌, ◌<◌, ℕ, zero, suc, List, [], ◌∷◌, inl, inr, refl, sym, ap, subst, ◌∙◌, arith}
 use Rattle.std.proofs.lemmas.Bool.{cases_order}
 use Rattle.lin_events.specs.declared.calls.Call.{Call}
@@ -18,17 +18,13 @@ use Rattle.lin_order.specs.Linearizable.{IsLegalOrderAs, Runs}
 use Rattle.lin_order.specs.Orders.{IsBefore, IsCall}
 use Rattle.lin_order.specs.lemmas.OneEnd.{one_call}
 use Rattle.lin_certificates.specs.Conflicts.{IsRegister, Leaves}
-use Rattle.lin_certificates.specs.Overwriting.{ArePast, Needed, Needs, Returned}
-use Rattle.lin_certificates.specs.inner.Conflicts.{Holds, IsShown}
+use Rattle.lin_certificates.specs.Words.{Needs, Returned, Updates}
+use Rattle.lin_certificates.specs.Certificates.{IsStale, OtherCanLeave}
 use Rattle.lin_certificates.specs.lemmas.Conflicting.{found, no_other, set, value_is, wrote}
 use Rattle.lin_certificates.specs.lemmas.Standing.{At, not_failed, ok_there, one_place, stands_ahead, one_there}
 
 same_value : (x y : Val) → Replied.Value x ≡ Replied.Value y → x ≡ y
 same_value x y e = cc
-
--- a call that leaves some value
-abbrev pub Updates : Call → Type 0
-Updates call = (v : Val) × Leaves call v
 
 -- the register holds what the call needs
 needed : (kind : Kind) → IsRegister kind → (s next : State) (call : Call) (reply : Reply) (v : Val) → Step kind s call next reply → Needs call reply v → s ≡ Value v
@@ -52,13 +48,6 @@ leaves_one : (call : Call) (v w : Val) → Leaves call v → Leaves call w → v
 leaves_one (Write x) v w left other = sym left ∙ other
 leaves_one (Cas from to) v w left other = sym left ∙ other
 leaves_one call v w left other = absurd left
-
--- an operation behind which the register holds a value needs it or leaves it
-shows : (call : Call) (reply : Reply) (v : Val) → Holds call reply v → Needs call reply v ⊎ Leaves call v
-shows Read (Replied.Value x) v held = inl held
-shows (Write x) reply v held = inr held
-shows (Cas from to) reply v held = inr held
-shows call reply v held = absurd held
 
 starts_nil : (kind : Kind) → IsRegister kind → start kind ≡ Value Nil
 starts_nil Register is = refl
@@ -139,25 +128,25 @@ module _ (kind : Kind) (is_register : IsRegister kind) (h : List Event) where
         let call = one_call h q.at c d (subst (λ (z : Placed). IsCall h z.at c) same is_c) is_d in
         leaves_one d v w (subst (λ z. Leaves z v) call leaves_v) leaves_w
 
-    -- what was left is ahead of the operation that shows another value
-    pub left_behind : (v : Val) (at over : ℕ) → (s : Seat v at) → (left : LeftAhead order v s.0) → ArePast h at v over → (k : ℕ) (p : Placed) → At order k p → p.at ≡ over → left.0 < k
-    left_behind v at over s left past k p there is = elim (past left.1.at left.2 left.5 left.6) [
-      | inl same ↦ absurd (another s.0 left.0 s.1 left.1 at s.2 s.3 left.4 left.3 same)
-      | inr more ↦ elim more [
-        | inl failed ↦ absurd (not_failed kind h order legal left.0 left.1 left.4 failed)
-        | inr before ↦ stands_ahead kind h order legal left.0 k left.1 p left.4 there (subst (λ x. IsBefore h left.1.at x) (sym is) before)
-      ]
-    ]
+    -- each other operation that leaves the value is before the place
+    abbrev ArePast : Val → ℕ → ℕ → Type 0
+    ArePast v at over = (other : ℕ) → OtherCanLeave h v at other → IsBefore h other over
+
+    -- what was left is ahead of the operation that touches another value
+    left_behind : (v : Val) (at over : ℕ) → (s : Seat v at) → (left : LeftAhead order v s.0) → ArePast v at over → (k : ℕ) (p : Placed) → At order k p → p.at ≡ over → left.0 < k
+    left_behind v at over s left past k p there is =
+        let other : OtherCanLeave h v at left.1.at = (another s.0 left.0 s.1 left.1 at s.2 s.3 left.4 left.3, (left.2, left.5, not_failed kind h order legal left.0 left.1 left.4, left.6)) in
+        stands_ahead kind h order legal left.0 k left.1 p left.4 there (subst (λ x. IsBefore h left.1.at x) (sym is) (past left.1.at other))
 
     -- where an update stands between, what an operation needs is not held any more
-    pub covered : (v : Val) (at over : ℕ) → (s : Seat v at) → ArePast h at v over → (k : ℕ) (p : Placed) → At order k p → p.at ≡ over → k < s.0 → UpdatesAt order k → ⊥
+    covered : (v : Val) (at over : ℕ) → (s : Seat v at) → ArePast v at over → (k : ℕ) (p : Placed) → At order k p → p.at ≡ over → k < s.0 → UpdatesAt order k → ⊥
     covered v at over s past k p there is ahead updates = elim s.4 [
       | inl left ↦ left.7 k (left_behind v at over s left past k p there is) ahead updates
       | inr none ↦ none.1 k ahead updates
     ]
 
     -- nor where another value is read between
-    pub apart : (v w : Val) (at over : ℕ) → (w ≡ v → ⊥) → (s : Seat v at) (t : Seat w over) → ArePast h at v over → t.0 < s.0 → ⊥
+    apart : (v w : Val) (at over : ℕ) → (w ≡ v → ⊥) → (s : Seat v at) (t : Seat w over) → ArePast v at over → t.0 < s.0 → ⊥
     apart v w at over differ s t past ahead = elim s.4 [
       | inl left ↦
           let behind = left_behind v at over s left past t.0 t.1 t.2 t.3 in
@@ -181,18 +170,19 @@ module _ (kind : Kind) (is_register : IsRegister kind) (h : List Event) where
       ]
     ]
 
-    -- the operation that shows another value is before the one that needs this one, and behind all else that leaves it
-    pub overwritten : (at over end : ℕ) (v w : Val) → (w ≡ v → ⊥) → Needed h v at → IsShown h over w end → end < at → ArePast h at v over → ⊥
-    overwritten at over end v w differ needed shown less past =
-        let s = seat v at needed in
-        let before : IsBefore h over s.1.at = subst (IsBefore h over) (sym s.3) (end, shown.1, shown.3, less) in
-        elim (shows shown.0 shown.1 w shown.4) [
+    -- the operation that touches another value is before the one that needs this one, and behind all else that leaves it
+    pub stale : (at over : ℕ) (v w : Val) → IsStale h at v over w → ⊥
+    stale at over v w is =
+        let s = seat v at is.needed in
+        let t = is.touched in
+        let before : IsBefore h over s.1.at = subst (IsBefore h over) (sym s.3) is.in_time in
+        elim t.5 [
           | inl needs ↦
-              let t = seat w over (shown.0, end, shown.1, shown.2, shown.3, needs) in
-              apart v w at over differ s t past (stands_ahead kind h order legal t.0 s.0 t.1 s.1 t.2 s.2 (subst (λ x. IsBefore h x s.1.at) (sym t.3) before))
+              let u = seat w over (t.0, t.1, t.2, t.3, t.4, needs) in
+              apart v w at over (λ same. is.differ (sym same)) s u is.each (stands_ahead kind h order legal u.0 s.0 u.1 s.1 u.2 s.2 (subst (λ x. IsBefore h x s.1.at) (sym u.3) before))
           | inr leaves ↦
-              let q : Placed = record { at = over; reply = shown.1 } in
-              let place = ok_there kind h order legal over end shown.1 shown.3 in
-              covered v at over s past place.0 q place.1 refl (stands_ahead kind h order legal place.0 s.0 q s.1 place.1 s.2 before)
-              (updates_at place.0 q shown.0 w place.1 shown.2 leaves)
+              let q : Placed = record { at = over; reply = t.2 } in
+              let place = ok_there kind h order legal over t.1 t.2 t.4 in
+              covered v at over s is.each place.0 q place.1 refl (stands_ahead kind h order legal place.0 s.0 q s.1 place.1 s.2 before)
+              (updates_at place.0 q t.0 w place.1 t.3 leaves)
         ]

@@ -63,13 +63,6 @@ pub consumed_end : (a b c : Option (List ℕ)) (text piece : List ℕ) (count : 
 consumed_end a b c text piece count first last none =
     subst (Consumes a c) (ap (λ n. text ++ take n piece) none ∙ append-nil text) (Consumes-trans a b c text (take count piece) first last)
 
--- what the end of the file came to
-pub said_at_end : (r : Result History RunFault) (a left : Option (List ℕ)) (read keyed : Bool) (names : List (List ℕ)) (text : List ℕ) → read ≡ keyed
-    → length text ≤ 2 ^ 40 → Consumes a left text → IsAtEnd left → MatchResult r (IsHistory read names text) (λ _. ⊥)
-    → IfOk r (λ h. (x : List ℕ) × Consumes a left x × (length x ≤ 2 ^ 40) × EndsFor h left × IsHistory keyed names x h)
-said_at_end (Ok h) a left read keyed names text same within consumed end said = (text, consumed, within, ends_at_end h left end, subst (λ k. IsHistory k names text h) same said)
-said_at_end (Err fault) a left read keyed names text same within consumed end said = tt
-
 -- why the file is refused
 pub refused_for : (r : Option Refusal) (refusal : Refusal) (read keyed : Bool) (names : List (List ℕ)) (text : List ℕ) (P : Type 0) → r ≡ Some refusal
     → read ≡ keyed → MatchOption r P (AreRefused read names text) → AreRefused keyed names text refusal

@@ -5,6 +5,8 @@ use Rattle.lin_edn.specs.Grammar.{Spells}
 use Rattle.lin_history.specs.Reading.{Reading}
 use Rattle.lin_history.specs.Stream.{Told, told, told_by, Gives, IsStream}
 use Rattle.lin_history.specs.Sees.{is_fault}
+use Rattle.lin_history.specs.PassedMaps.{keywords_in}
+use Rattle.lin_history.specs.inner.Passing.{Gathered, IsOver, passed_more}
 use Rattle.lin_events.specs.declared.events.Event.{Event}
 use Rattle.lin_history.specs.declared.table.EventFault.{EventFault}
 use Rattle.lin_history.specs.declared.table.EventFault.TheVariants as cause
@@ -36,32 +38,34 @@ behind p (Err fault.OutOfMemory) = Err fault.OutOfMemory
 behind p (Err fault.TooMuch) = Err fault.TooMuch
 
 -- a text that stands from a place of the stream on is read as far as it goes
-pub record IsReadTo (m : Reading) (text : List ℕ) (p : ℕ) (old new : List Event) (r : Read) : Type 0 where
+pub record IsReadTo (m : Reading) (text : List ℕ) (p : ℕ) (old new : Gathered) (r : Read) : Type 0 where
   pub events : List Event
   pub outcome : Result (Unit {0}) FollowFault
-  pub put : new ≡ old ++ events
+  pub put : new.items ≡ old.items ++ events
   pub inside : r.used ≤ length text
   pub is_stream : IsStream m text events outcome
   pub told : r.outcome ≡ behind p outcome
   pub goes_on : is_fault outcome ≡ false → Gives m text events r.used
+  pub over : is_fault outcome ≡ false → IsOver text outcome old.passed new.passed r.used
 
 -- events were put behind those that were ready
 abbrev pub IsPutBehind : List Event → List Event → Type 0
 IsPutBehind old new = (es : List Event) × (new ≡ old ++ es)
 
--- an element without fault stands in front of a text, and tells these events
-pub record IsElement (m : Reading) (text : List ℕ) (old new : List Event) (used : ℕ) : Type 0 where
+-- an element without fault stands in front of a text, and tells these events; its maps that are passed over are counted
+pub record IsElement (m : Reading) (text : List ℕ) (old new : Gathered) (used : ℕ) : Type 0 where
   pub events : List Event
   pub value : Value
   pub at : ℕ
-  pub put : new ≡ old ++ events
+  pub put : new.items ≡ old.items ++ events
+  pub over : new.passed ≡ passed_more old.passed (keywords_in value)
   pub some : 0 < used
   pub inside : used ≤ length text
   pub spelled : Spells text value at used
   pub told : told m value ≡ record { events = events; ends = None }
 
 -- what stands in front of a text: an element without fault, or the end
-abbrev pub IsFront : Reading → List ℕ → ℕ → List Event → List Event → Front → Type 0
+abbrev pub IsFront : Reading → List ℕ → ℕ → Gathered → Gathered → Front → Type 0
 IsFront m text p old new (front.Element used) = IsElement m text old new used
 IsFront m text p old new (front.End r) = IsReadTo m text p old new r
 
@@ -76,6 +80,6 @@ IsStanding o None = is_fault o ≡ false
 IsStanding o (Some f) = (o ≡ Err f) × (is_fault o ≡ true)
 
 -- a piece is put behind what is held, and what is read of both is dropped; or all is as it was
-abbrev pub IsCut : List ℕ → List ℕ → List Event → List ℕ → List Event → Result Read OutOfMemory → Type 0
-IsCut piece held ready held' ready' (Ok r) = IsPutBehind ready ready' × (r.used ≤ length (held ++ piece)) × (held' ≡ drop r.used (held ++ piece))
+abbrev pub IsCut : List ℕ → List ℕ → Gathered → List ℕ → Gathered → Result Read OutOfMemory → Type 0
+IsCut piece held ready held' ready' (Ok r) = IsPutBehind ready.items ready'.items × (r.used ≤ length (held ++ piece)) × (held' ≡ drop r.used (held ++ piece))
 IsCut piece held ready held' ready' (Err _) = (held' ≡ held) × (ready' ≡ ready)

@@ -6,8 +6,9 @@ use Rattle.lin_edn.specs.Skimming.{HasSeen}
 use Rattle.lin_edn.specs.Value.{Value}
 use Rattle.lin_history.specs.Reading.{Reading}
 use Rattle.lin_history.specs.Stream.{told}
+use Rattle.lin_history.specs.PassedMaps.{counted, keywords_in}
+use Rattle.lin_history.specs.inner.Passing.{Gathered}
 use Rattle.lin_history.specs.inner.Reads.{IsReadTo}
-use Rattle.lin_events.specs.declared.events.Event.{Event}
 use Rattle.lin_history.specs.declared.follow.Read.{Read}
 use Rattle.lin_history.specs.declared.follow.Rest.{Rest}
 use Rattle.lin_events.specs.declared.lists.OutOfMemory.{OutOfMemory}
@@ -20,9 +21,9 @@ use Rattle.lin_history.specs.Rests.{told_of, IsOpen, IsOpenRow, IsWaiting, Knows
 abbrev pub IsWholeRow : Row → List ℕ → ℕ → Type 0
 IsWholeRow row text used = (v : Value) × Spells text v (row_begun row.series) used
 
--- and what it tells waits
+-- and what it tells waits, and those of its maps that are passed over are counted
 abbrev pub IsWhole : Reading → Row → List ℕ → ℕ → Type 0
-IsWhole m row text used = (v : Value) × Spells text v (row_begun row.series) used × (told m v ≡ told_of row)
+IsWhole m row text used = (v : Value) × Spells text v (row_begun row.series) used × (told m v ≡ told_of row) × (row.passed ≡ counted (keywords_in v))
 
 -- a list or vector is read as far as its maps are whole
 abbrev pub IsFarRow : Row → List ℕ → Far → Type 0
@@ -49,5 +50,5 @@ IsHeld text rest (Ok r) = (r.used ≤ length text) × Knows rest (drop r.used te
 IsHeld text rest (Err _) = IsUnaware rest
 
 -- and what is read so is told, or waits
-abbrev pub IsReadHeld : Reading → List ℕ → ℕ → List Event → List Event → Option Row → Read → Type 0
+abbrev pub IsReadHeld : Reading → List ℕ → ℕ → Gathered → Gathered → Option Row → Read → Type 0
 IsReadHeld m text p old new row r = IsReadTo m text p old new r × IsWaiting m row (drop r.used text)

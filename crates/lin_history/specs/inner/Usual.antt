@@ -7,8 +7,9 @@ use Rattle.lin_bytes.specs.Bytes.{Kind, a_set, a_vector}
 use Rattle.lin_edn.specs.Run.{run_value}
 use Rattle.lin_edn.specs.Value.{Value, vector, map, Entries, values_of, entries_of}
 use Rattle.lin_names.specs.Spelled.{Spelled}
+use Rattle.lin_history.specs.PassedMaps.{keyword_of}
 use Rattle.lin_history.specs.Reading.{Reading, IsReading}
-use Rattle.lin_history.specs.Table.{bare, is_word, under, process_of, type_of, function_of, body_of, said_of, parts_said, or_nil, is_several, is_by_keyword, event, event_with}
+use Rattle.lin_history.specs.Table.{bare, is_word, under, process_of, type_of, function_of, body_of, said_of, parts_said, or_nil, is_several, event, event_with}
 use Rattle.lin_events.specs.declared.calls.Name.{Name}
 use Rattle.lin_history.specs.declared.table.EventType.{EventType}
 use Rattle.lin_history.specs.declared.usual.Field.{Field}
@@ -16,7 +17,7 @@ use Rattle.lin_history.specs.declared.usual.Field.TheVariants as field
 use Rattle.lin_history.specs.declared.usual.Extent.{Extent}
 use Rattle.lin_history.specs.declared.usual.ValueExtents.{ValueExtents}
 use Rattle.lin_history.specs.declared.usual.Process.{Process}
-use Rattle.lin_history.specs.declared.usual.Process.TheVariants.{Number, Named}
+use Rattle.lin_history.specs.declared.usual.Process.TheVariants.{Number, Nemesis}
 use Rattle.lin_history.specs.declared.usual.Taken.{Taken}
 use Rattle.lin_events.specs.declared.events.Event.{Event}
 
@@ -51,10 +52,10 @@ abbrev pub TellsWith : Reading → ℕ → EventType → Name → List Value →
 TellsWith m n t f vs told = (is_several vs ≡ false) × ((process type function : Value) →
     process_of process ≡ Some n → type_of type ≡ Some t → function_of function ≡ Some f → event_with m process type function (or_nil vs) ≡ Ok told)
 
--- a value says the process: its number, or a name
+-- a value says the process: its number, or that it is a nemesis
 abbrev pub IsProcess : Value → Process → Type 0
 IsProcess v (Number n) = process_of v ≡ Some n
-IsProcess v Named = is_by_keyword (v ∷ []) ≡ true
+IsProcess v Nemesis = is_word (codes ":nemesis") v ≡ true
 
 -- the places of the values under the four keys of a map are kept
 pub record ArePlaced (s : List ℕ) (levels : ℕ) (es : Entries) (ps : ValueExtents) : Type 0 where
@@ -98,7 +99,7 @@ IsUpTo s from levels at ps = (es : List (Value × Value)) × ArePlaced s levels 
 abbrev pub IsMapAt : List ℕ → ℕ → ℕ → ValueExtents → ℕ → Type 0
 IsMapAt s from levels ps until = (es : Entries) × ArePlaced s levels es ps × Element (suc levels) from (drop from s) (map es) until (drop until s)
 
--- behind white a map stands, with a tag or none and with so many levels, that tells this
+-- behind white a map stands, with a tag or none and with so many levels, that tells this, and isn't passed over for a keyword but that of the nemesis
 pub record IsTaken (keyed : Bool) (names : List (List ℕ)) (s : List ℕ) (from levels : ℕ) (taken : Taken) : Type 0 where
   pub entries : Entries
   pub at : ℕ
@@ -112,6 +113,7 @@ pub record IsTaken (keyed : Bool) (names : List (List ℕ)) (s : List ℕ) (from
   pub is_map : bare value ≡ map entries
   pub element : Element levels at (drop at s) value taken.used (drop taken.used s)
   pub told : (m : Reading) → IsReading keyed names m → event m (map entries) ≡ Ok taken.event
+  pub over : keyword_of (map entries) ≡ []
 
 -- the event that is told, if any
 abbrev pub events_of : Option Event → List Event

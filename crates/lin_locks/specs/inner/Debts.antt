@@ -11,7 +11,7 @@ use Rattle.lin_objects.specs.declared.states.State.{State}
 use Rattle.lin_objects.specs.declared.states.State.TheVariants.{Held}
 use Rattle.lin_objects.specs.Steps.{Step, start}
 use Rattle.lin_order.specs.Configurations.{IsConfiguration}
-use Rattle.lin_certificates.specs.BagConflicts.{AtLeast}
+use Rattle.lin_certificates.specs.Numbers.{AtLeast}
 use Rattle.lin_locks.specs.declared.sides.Debt.{Debt}
 
 -- the call that acquires the lock, or else the one that releases it

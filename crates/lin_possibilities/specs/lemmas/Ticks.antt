@@ -1,5 +1,5 @@
 -- Counts that stay at their greatest value.
-use Rattle.std.proofs.Common.{◌≡◌, ◌<◌, ◌≤◌, ◌+◌, ◌-◌, ◌^◌, ◌∙◌, ℕ, zero, suc, min, ap, sym, arith}
+use Rattle.std.proofs.Common.{◌≡◌, ◌<◌, ◌≤◌, ◌+◌, ◌-◌, ◌^◌, ◌∙◌, ℕ, zero, suc, min, ap, arith}
 use Rattle.lin_events.specs.Meters.{ticked}
 
 -- ticks on ticks

@@ -16,4 +16,4 @@ returns-in-Overwritten c =
 pub returns-in_default : goal.returns-in_default
 returns-in_default c =
     let a = c.in_default in
-    nothing_put c.args.told.now c.args.certificate.now c.args.text.now.items c.args.named.now.items a.not-Shape a.not-Unwritten a.not-Overwritten a.not-Crossed
+    nothing_put c.args.told.now c.args.certificate.now c.args.text.now.items c.args.named.now.items a.not-Shape a.not-Unwritten a.not-Overwritten a.not-Stale a.not-Crossed

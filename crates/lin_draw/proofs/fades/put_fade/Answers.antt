@@ -1,4 +1,4 @@
-use Rattle.std.proofs.Common.{◌∙◌, ◌-◌, ◌++◌, ap, codes, decimal}
+use Rattle.std.proofs.Common.{◌∙◌, ◌-◌, ◌++◌, ap, decimal}
 use Rattle.lin_texts.specs.lemmas.Putting.{put_next}
 use Rattle.lin_draw.specs.Fades.{fade_name, fade_width}
 use Rattle.lin_draw.proofs.fades.put_fade.Goals as goal

@@ -1,8 +1,9 @@
 use Rattle.std.proofs.Common.{sym, subst}
 use Rattle.std.specs.Io.KnownBytes.{Consumes}
-use Rattle.lin_formats.specs.Devices.{device_of}
+use Rattle.lin_formats.specs.Devices.{device_of, passed_of}
 use Rattle.lin_formats.specs.Histories.{EndsFor, IsHistoryFor, with_least}
 use Rattle.lin_formats.specs.lemmas.Reading.{limited, limited_ends}
+use Rattle.lin_formats.proofs.Taking.{passed_noted}
 use Rattle.lin_formats.proofs.inputs.read_history.Goals as goal
 
 pub returns-clause-read : goal.returns-clause-read
@@ -17,5 +18,5 @@ returns-clause-read g c =
       read.2,
       subst (λ h. EndsFor h (g.R.Read.remaining (device_of c.has_given.new.self))) (sym c.with_least.ensures) (subst (λ d. EndsFor (with_least least history) (g.R.Read.remaining d)) same ends),
       subst (IsHistoryFor least c.args.keyed c.read_stream.new.names read.0) (sym c.with_least.ensures) (limited least c.args.keyed c.read_stream.new.names read.0 history read.4),
-      (history, read.4, c.has_given.ensures.noted),
+      (history, read.4, c.has_given.ensures.noted, passed_noted read.0 history c.in_ok-history.passed (passed_of c.has_given.new.self) read.5 c.has_given.ensures.passed),
     )

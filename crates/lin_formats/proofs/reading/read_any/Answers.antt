@@ -1,7 +1,7 @@
 use Rattle.std.proofs.Common.{[], rules, Err, take, ◌++◌, ◌∙◌, refl, sym, ap, subst, arith}
 use Rattle.std.proofs.KnownBytes.{Consumes-trans}
 use Rattle.lin_formats.specs.lemmas.Reading.{consumed_end, ends_at_end, refused_for, not_refused, not_refused_so, stops_for, longer, fits}
-use Rattle.lin_formats.specs.Histories.{IsHistory}
+use Rattle.lin_formats.specs.Histories.{AreAllPassed, IsHistory}
 use Rattle.lin_formats.specs.Intakes.{IsFed}
 use Rattle.lin_names.specs.lemmas.Begins.{begins_itself, begins_on}
 use Rattle.lin_history.specs.Reading.{Reading}
@@ -38,11 +38,12 @@ returns-then-count-eq0-clause-read g c =
       consumed_end _ _ _ v.bytes c.read.new.buf c.in-Ok.count v.consumed read.0 c.if-count-eq0.true,
       v.within,
       ends_at_end history _ (read.1 c.if-count-eq0.true (omega arith)),
-      subst (λ k. IsHistory k c.pieces.names v.bytes history) v.keyed (c.in_ok-history.ensures v.bytes v.taken),
+      subst (λ k. IsHistory k c.pieces.names v.bytes history) v.keyed (c.in_ok-history.ensures.said v.bytes v.taken),
       v.marks,
       v.keyed_places,
       v.held,
       v.first,
+      subst (AreAllPassed v.bytes history) (sym c.passed_over.ensures) (c.in_ok-history.ensures.passed v.bytes v.taken),
     )
 
 pub returns-in_err-refusal-clause-too_much : goal.returns-in_err-refusal-clause-too_much
@@ -71,6 +72,7 @@ returns-in-Some-clause-read g c =
       c.in_ok-feed.ensures.feeds.0 ∙ v.keyed_places,
       (c.in_ok-feed.ensures.feeds.1 reading numbering.1 v.bytes (v.marks reading (reading_before _ _ (begins_on _ _ _ first second) c.args.keyed reading (refl, numbering.1)))).1 v.calm,
       c.in_ok-keep_first.ensures v.bytes v.first,
+      tt,
     )
 
 pub pieces-preserved : goal.pieces-preserved
@@ -103,3 +105,12 @@ pieces-preserved g c =
       keyed_places = c.in_ok-feed.ensures.feeds.0 ∙ v.keyed_places;
       uncounted = c.in-Ok.ensures.counts ∙ v.uncounted;
     }
+
+pub returns-in_err-history-clause-too_much : goal.returns-in_err-history-clause-too_much
+returns-in_err-history-clause-too_much g c = λ e. absurd (c.in_err-history.ensures.said c.pieces.invariant.bytes c.pieces.invariant.taken)
+
+pub returns-in_err-history-clause-counts : goal.returns-in_err-history-clause-counts
+returns-in_err-history-clause-counts g c = absurd (c.in_err-history.ensures.said c.pieces.invariant.bytes c.pieces.invariant.taken)
+
+pub returns-in_err-history-clause-readers : goal.returns-in_err-history-clause-readers
+returns-in_err-history-clause-readers g c = λ e. c.in_err-history.ensures.said c.pieces.invariant.bytes c.pieces.invariant.taken

@@ -1,8 +1,9 @@
 use Rattle.std.proofs.Common.{◌∙◌, sym, subst}
 use Rattle.std.specs.Io.KnownBytes.{Consumes}
-use Rattle.lin_formats.specs.Devices.{device_of}
+use Rattle.lin_formats.specs.Devices.{device_of, passed_of}
 use Rattle.lin_formats.specs.Histories.{EndsFor, IsHistoryFor, with_least}
 use Rattle.lin_formats.specs.lemmas.Reading.{limited, limited_ends}
+use Rattle.lin_formats.proofs.Taking.{passed_noted}
 use Rattle.lin_formats.proofs.reading.read_placed.Goals as goal
 
 pub returns-clause-read : goal.returns-clause-read
@@ -23,5 +24,5 @@ returns-clause-read g c =
       read.5,
       read.6,
       c.in_ok-hints.ensures read.0 read.7 (c.as_slice.ensures.value ∙ read.8),
-      (history, read.4, c.has_given.ensures.noted),
+      (history, read.4, c.has_given.ensures.noted, passed_noted read.0 history c.in_ok-history.passed (passed_of c.has_given.new.self) read.9 c.has_given.ensures.passed),
     )

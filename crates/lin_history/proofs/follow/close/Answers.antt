@@ -1,13 +1,14 @@
 use Rattle.std.proofs.Common.{◌++◌, arith, length-drop}
 use Rattle.lin_history.proofs.Reading.{rest_is, put_again}
 use Rattle.lin_history.proofs.Waiting.{reads_on}
+use Rattle.lin_history.specs.inner.Passing.{gathered}
 use Rattle.lin_history.proofs.follow.close.Goals as goal
 
 pub returns-in_ok-read-in-Element-clause-put : goal.returns-in_ok-read-in-Element-clause-put
 returns-in_ok-read-in-Element-clause-put c =
     let first = c.in_ok-used.ensures.put in
     let rest = c.in_ok-read-in-Element.ensures.put in
-    (first.0 ++ rest.0, put_again c.args.ready.now.items c.tell_row.new.ready.items c.read_on.new.ready.items first.0 rest.0 first.1 rest.1)
+    (first.0 ++ rest.0, put_again c.args.ready.now.events.items c.tell_row.new.ready.events.items c.read_on.new.ready.events.items first.0 rest.0 first.1 rest.1)
 
 pub returns-in_ok-read-in-Element-clause-within : goal.returns-in_ok-read-in-Element-clause-within
 returns-in_ok-read-in-Element-clause-within c =
@@ -21,7 +22,7 @@ pub returns-in_ok-read-in-Element-clause-read : goal.returns-in_ok-read-in-Eleme
 returns-in_ok-read-in-Element-clause-read c = λ m is whole.
     let first = rw c.in-Element.is at (c.in_ok-used.ensures.front m c.args.held.now whole) in
     let here = rw (rest_is c.args.held.now c.in-Element.used) at (c.in_ok-read-in-Element.ensures.read m is) in
-    reads_on m c.args.held.now c.args.passed c.args.ready.now.items c.tell_row.new.ready.items c.read_on.new.ready.items c.in-Element.used
+    reads_on m c.args.held.now c.args.passed (gathered c.args.ready.now) (gathered c.tell_row.new.ready) (gathered c.read_on.new.ready) c.in-Element.used
     c.in_ok-read-in-Element.read first here
 
 pub returns-in-End-clause-within : goal.returns-in-End-clause-within
@@ -52,4 +53,4 @@ pub returns-in_err-read-in-Element-clause-put : goal.returns-in_err-read-in-Elem
 returns-in_err-read-in-Element-clause-put c =
     let first = c.in_ok-used.ensures.put in
     let rest = c.in_err-read-in-Element.ensures.put in
-    (first.0 ++ rest.0, put_again c.args.ready.now.items c.tell_row.new.ready.items c.read_on.new.ready.items first.0 rest.0 first.1 rest.1)
+    (first.0 ++ rest.0, put_again c.args.ready.now.events.items c.tell_row.new.ready.events.items c.read_on.new.ready.events.items first.0 rest.0 first.1 rest.1)

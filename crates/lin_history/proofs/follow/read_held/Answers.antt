@@ -6,6 +6,7 @@ use Rattle.lin_history.specs.Rests.{IsBegun, IsOpen, IsWaiting, Knows}
 use Rattle.lin_history.specs.inner.Rests.{GoesOn, IsReadHeld}
 use Rattle.lin_history.specs.declared.follow.Read.{Read}
 use Rattle.lin_history.proofs.Resting.{held_goes_on}
+use Rattle.lin_history.specs.inner.Passing.{gathered}
 use Rattle.lin_history.proofs.follow.read_held.Goals as goal
 
 pub read_in-requires-clause-open : goal.read_in-requires-clause-open
@@ -18,12 +19,12 @@ pub returns-in-Some-clause-read : goal.returns-in-Some-clause-read
 returns-in-Some-clause-read c =
     let held = c.args.held.now in
     let piece = c.args.piece.now in
-    let reads : Reading → Read → Type 0 = λ m r. IsReadHeld m held c.args.passed c.args.ready.now.items c.read_in.new.ready.items c.read_in.new.rest.row r in
+    let reads : Reading → Read → Type 0 = λ m r. IsReadHeld m held c.args.passed (gathered c.args.ready.now) (gathered c.read_in.new.ready) c.read_in.new.rest.row r in
     IfOk-weaker c.read_in.result (λ r. (m : Reading) → IsReading c.args.keyed c.read_in.new.names m → IsOpen m c.in-Some.row held → reads m r)
     (λ r. (m : Reading) → IsReading c.args.keyed c.read_in.new.names m → (text : List ℕ) → held ≡ text ++ piece → IsWaiting m c.args.rest.now.row text → reads m r)
     (λ r read m is text whole waits.
     let row = subst (λ o. IsWaiting m o text) (sym c.in-Some.ensures.value) waits in
-    read m is (row.0, subst (λ (l : List ℕ). IsRow c.in-Some.row.series l row.0) (sym whole) (c.more_bytes.ensures.row c.in-Some.row.series text piece row.0 row.1), row.2))
+    read m is (row.0, subst (λ (l : List ℕ). IsRow c.in-Some.row.series l row.0) (sym whole) (c.more_bytes.ensures.row c.in-Some.row.series text piece row.0 row.1), row.2, row.3))
     c.read_in.ensures.read
 
 pub read_anew-requires-clause-unaware : goal.read_anew-requires-clause-unaware
@@ -49,7 +50,7 @@ returns-then-piece-held-clause-held c =
 
 pub returns-then-piece-held-clause-read : goal.returns-then-piece-held-clause-read
 returns-then-piece-held-clause-read c = λ m is text whole waits. (
-  c.resting-read.ensures.read m c.args.ready.now.items,
+  c.resting-read.ensures.read m (gathered c.args.ready.now),
   subst (λ n. IsWaiting m c.begin_row.result (drop n c.args.held.now)) (sym c.resting-read.ensures.used) (c.begin_row.ensures.waits m),
 )
 
@@ -64,7 +65,7 @@ returns-else-piece-held-clause-held c =
 
 pub returns-else-piece-held-clause-read : goal.returns-else-piece-held-clause-read
 returns-else-piece-held-clause-read c = λ m is text whole waits. (
-  c.resting-read.ensures.read m c.args.ready.now.items,
+  c.resting-read.ensures.read m (gathered c.args.ready.now),
   subst (λ n. IsWaiting m c.go_on.new.rest.row (drop n c.args.held.now)) (sym c.resting-read.ensures.used)
       (subst (λ o. IsWaiting m o c.args.held.now) (sym (c.go_on.ensures.row ∙ c.take.ensures.after)) tt),
 )

@@ -2,6 +2,7 @@ use Rattle.std.proofs.Common.{List, ℕ, Some, drop, sym, subst, arith}
 use Rattle.lin_names.specs.lemmas.Begins.{begins_on}
 use Rattle.lin_history.specs.Rests.{IsBegun, IsWaiting, Knows}
 use Rattle.lin_history.proofs.Reading.{rest_is, reading_before}
+use Rattle.lin_history.specs.inner.Passing.{gathered}
 use Rattle.lin_history.proofs.follow.read_in.Goals as goal
 
 pub close-requires-clause-whole : goal.close-requires-clause-whole
@@ -41,7 +42,7 @@ returns-then-more-clause-held c =
 pub returns-then-more-clause-read : goal.returns-then-more-clause-read
 returns-then-more-clause-read c = λ m is opens.
     let row = rw c.in-Open.is at (c.in_ok-used.ensures.told m is opens) in (
-      c.resting-read.ensures.read m c.args.ready.now.items,
+      c.resting-read.ensures.read m (gathered c.args.ready.now),
       subst (λ n. IsWaiting m (Some c.read_maps.new.row) (drop n c.args.held.now)) (sym c.resting-read.ensures.used) row,
     )
 
@@ -56,7 +57,7 @@ returns-else-more-clause-held c =
 
 pub returns-else-more-clause-read : goal.returns-else-more-clause-read
 returns-else-more-clause-read c = λ m is opens. (
-  c.resting-read.ensures.read m c.args.ready.now.items,
+  c.resting-read.ensures.read m (gathered c.args.ready.now),
   subst (λ n. IsWaiting m c.args.rest.now.row (drop n c.args.held.now)) (sym c.resting-read.ensures.used)
       (subst (λ o. IsWaiting m o c.args.held.now) (sym c.requires.row) tt),
 )

@@ -1,17 +1,19 @@
-use Rattle.std.proofs.Common.{[], ◌++◌, sym, append-nil, arith, length-drop}
+use Rattle.std.proofs.Common.{[], ◌++◌, refl, sym, append-nil, arith, length-drop}
 use Rattle.lin_names.specs.lemmas.Begins.{begins_itself, begins_on}
 use Rattle.lin_history.specs.Stream.{nothing}
+use Rattle.lin_history.specs.PassedMaps.{nothing as passes_nothing}
 use Rattle.lin_history.proofs.Reading.{one_more, the_end, rest_is, put_again, reading_before}
+use Rattle.lin_history.specs.inner.Passing.{gathered}
 use Rattle.lin_history.proofs.follow.read_on.Goals as goal
 
 pub elements-init : goal.elements-init
 elements-init c =
-    let none = sym (append-nil c.args.ready.now.items) in
+    let none = sym (append-nil c.args.ready.now.events.items) in
     record {
       begun = begins_itself c.args.names.now;
       put = ([], none);
       inside = omega arith;
-      read = λ m is. record { inside = omega arith; read = ([], none, nothing) };
+      read = λ m is. record { inside = omega arith; read = ([], none, nothing); over = ([], passes_nothing, refl) };
     }
 
 pub elements-preserved : goal.elements-preserved
@@ -23,11 +25,11 @@ elements-preserved c =
     let put = c.in_ok-used.ensures.put in
     record {
       begun = begins_on c.args.names.now c.elements.names c.read_front.new.names old.begun c.in_ok-used.ensures.begun;
-      put = (old.put.0 ++ put.0, put_again c.args.ready.now.items c.elements.ready.items c.read_front.new.ready.items old.put.0 put.0 old.put.1 put.1);
+      put = (old.put.0 ++ put.0, put_again c.args.ready.now.events.items c.elements.ready.events.items c.read_front.new.ready.events.items old.put.0 put.0 old.put.1 put.1);
       inside = (let h = here.1 in omega arith);
       read = λ m is.
           let front = rw (rest_is c.args.text.now c.elements.at) at (rw c.in-Element.is at (c.in_ok-used.ensures.front m is)) in
-          one_more _ _ _ _ _ c.elements.ready.items _ (old.read m (reading_before c.args.keyed c.elements.names c.read_front.new.names m c.in_ok-used.ensures.begun is)) front;
+          one_more _ _ _ _ _ (gathered c.elements.ready) _ (old.read m (reading_before c.args.keyed c.elements.names c.read_front.new.names m c.in_ok-used.ensures.begun is)) front;
     }
 
 pub returns-in-End-clause-begun : goal.returns-in-End-clause-begun
@@ -37,7 +39,7 @@ pub returns-in-End-clause-put : goal.returns-in-End-clause-put
 returns-in-End-clause-put c =
     let old = c.elements.invariant.put in
     let put = c.in_ok-used.ensures.put in
-    (old.0 ++ put.0, put_again c.args.ready.now.items c.elements.ready.items c.read_front.new.ready.items old.0 put.0 old.1 put.1)
+    (old.0 ++ put.0, put_again c.args.ready.now.events.items c.elements.ready.events.items c.read_front.new.ready.events.items old.0 put.0 old.1 put.1)
 
 pub returns-in-End-clause-within : goal.returns-in-End-clause-within
 returns-in-End-clause-within c =
@@ -49,4 +51,4 @@ returns-in-End-clause-within c =
 pub returns-in-End-clause-read : goal.returns-in-End-clause-read
 returns-in-End-clause-read c = λ m is.
     let front = rw (rest_is c.args.text.now c.elements.at) at (rw c.in-End.is at (c.in_ok-used.ensures.front m is)) in
-    the_end _ _ c.args.place c.elements.at _ c.elements.ready.items _ c.in-End.read (c.elements.invariant.read m (reading_before c.args.keyed c.elements.names c.read_front.new.names m c.in_ok-used.ensures.begun is)) front
+    the_end _ _ c.args.place c.elements.at _ (gathered c.elements.ready) _ c.in-End.read (c.elements.invariant.read m (reading_before c.args.keyed c.elements.names c.read_front.new.names m c.in_ok-used.ensures.begun is)) front

@@ -3,6 +3,7 @@ use Rattle.std.proofs.lemmas.Result.{IfOk-weaker}
 use Rattle.lin_history.specs.Reading.{Reading, IsReading}
 use Rattle.lin_history.specs.inner.Reads.{IsFront, IsWithin}
 use Rattle.lin_history.specs.inner.Rests.{IsWhole, IsWholeRow}
+use Rattle.lin_history.specs.inner.Passing.{gathered}
 use Rattle.lin_history.proofs.follow.read_unusual.Goals as goal
 
 pub returns-in-Some-clause-within : goal.returns-in-Some-clause-within
@@ -12,8 +13,8 @@ returns-in-Some-clause-within c =
 
 pub returns-in-Some-clause-front : goal.returns-in-Some-clause-front
 returns-in-Some-clause-front c =
-    let ready = c.args.ready.now.items in
-    let new = c.tell_row.new.ready.items in
+    let ready = gathered c.args.ready.now in
+    let new = gathered c.tell_row.new.ready in
     IfOk-weaker c.tell_row.result
     (λ front. (m : Reading) (text : List ℕ) → IsWhole m c.in-Some.row text c.in-Some.used → IsFront m text c.args.place ready new front)
     (λ front. (m : Reading) → IsReading c.args.keyed c.whole_row.new.names m → IsFront m c.args.text.now c.args.place ready new front)

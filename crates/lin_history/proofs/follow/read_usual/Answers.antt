@@ -1,5 +1,6 @@
-use Rattle.std.proofs.Common.{arith}
+use Rattle.std.proofs.Common.{arith, refl}
 use Rattle.lin_history.proofs.Taking.{in_front}
+use Rattle.lin_history.specs.inner.Passing.{gathered}
 use Rattle.lin_history.proofs.follow.read_usual.Goals as goal
 
 pub returns-in_ok-put_event-in-Some-clause-within : goal.returns-in_ok-put_event-in-Some-clause-within
@@ -9,4 +10,5 @@ returns-in_ok-put_event-in-Some-clause-within c =
 
 pub returns-in_ok-put_event-in-Some-clause-front : goal.returns-in_ok-put_event-in-Some-clause-front
 returns-in_ok-put_event-in-Some-clause-front c = λ m is.
-    in_front m c.args.keyed c.next_usual.new.names c.args.text.now c.in-Some.taken c.args.ready.now.items c.put_event.new.ready.items is c.in-Some.ensures.taken c.in_ok-put_event-in-Some.ensures.ok
+    in_front m c.args.keyed c.next_usual.new.names c.args.text.now c.in-Some.taken (gathered c.args.ready.now) (record { items = c.put_event.new.ready.items; passed = c.args.ready.now.passed }) is c.in-Some.ensures.taken
+    c.in_ok-put_event-in-Some.ensures.ok refl

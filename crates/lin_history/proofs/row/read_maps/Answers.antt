@@ -3,6 +3,8 @@ use Rattle.lin_names.specs.lemmas.Begins.{begins_itself, begins_on}
 use Rattle.lin_edn.specs.Rows.{IsRow, row_end}
 use Rattle.lin_edn.specs.View.{view}
 use Rattle.lin_history.proofs.Reading.{reading_before}
+use Rattle.lin_history.specs.PassedMaps.{counted}
+use Rattle.lin_history.proofs.Counting.{row_keywords, row_more}
 use Rattle.lin_history.proofs.Waiting.{row_told}
 use Rattle.lin_history.proofs.row.read_maps.Goals as goal
 
@@ -61,6 +63,7 @@ maps-preserved c =
             vs,
             subst (λ r. IsRow r s vs) same (c.in-Element.ensures so_far.0 so_far.1).0,
             c.in_ok-take_map-in-Element.ensures.told m is so_far.0 so_far.2,
+            row_more c.maps.row.passed c.take_map.new.row.passed so_far.0 v so_far.3 c.in_ok-take_map-in-Element.ensures.over,
           );
     }
 
@@ -76,8 +79,12 @@ returns-in-Closed-clause-row c =
 pub returns-in-Closed-clause-told : goal.returns-in-Closed-clause-told
 returns-in-Closed-clause-told c = λ m is row.
     let so_far = c.maps.invariant.told m (reading_before c.args.keyed c.maps.names c.next_taken.new.names m c.in-None.ensures.begun is) row in
-    let closed = c.in-Closed.ensures so_far.0 so_far.1 in
-    (closed.0, closed.2, row_told m c.next.new.self.is_tagged c.next.new.self.is_vector so_far.0 closed.0 closed.1 ∙ so_far.2)
+    let closed = c.in-Closed.ensures so_far.0 so_far.1 in (
+      closed.0,
+      closed.2,
+      row_told m c.next.new.self.is_tagged c.next.new.self.is_vector so_far.0 closed.0 closed.1 ∙ so_far.2,
+      so_far.3 ∙ ap counted (sym (row_keywords c.next.new.self.is_tagged c.next.new.self.is_vector so_far.0 closed.0 closed.1)),
+    )
 
 pub returns-in-Unknown-clause-begun : goal.returns-in-Unknown-clause-begun
 returns-in-Unknown-clause-begun c = begins_on c.args.names.now c.maps.names c.next_taken.new.names c.maps.invariant.begun c.in-None.ensures.begun
@@ -90,4 +97,4 @@ returns-in-Unknown-clause-row c =
 pub returns-in-Unknown-clause-told : goal.returns-in-Unknown-clause-told
 returns-in-Unknown-clause-told c = λ m is row.
     let so_far = c.maps.invariant.told m (reading_before c.args.keyed c.maps.names c.next_taken.new.names m c.in-None.ensures.begun is) row in
-    (so_far.0, (c.in-Unknown.ensures so_far.0 so_far.1).0, so_far.2)
+    (so_far.0, (c.in-Unknown.ensures so_far.0 so_far.1).0, so_far.2, so_far.3)

@@ -27,4 +27,5 @@ returns c = λ names.
       is_map = here.1;
       element = subst (λ u. Element c.args.levels at (drop at c.args.text.now) here.0 u (drop u c.args.text.now)) (sym c.in_ok-small.ensures.used) here.2;
       told = λ m is. c.in_ok-small.ensures.told m is.0 c.levels_inside-inside.result map.0 (let low = c.requires.1 in let few = c.levels_inside-inside.ensures.few in omega arith) map.1;
+      over = c.in_ok-small.ensures.over c.levels_inside-inside.result map.0 map.1;
     }

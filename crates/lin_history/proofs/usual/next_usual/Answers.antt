@@ -26,4 +26,5 @@ returns-clause-taken c =
       is_map = here.1;
       element = here.2;
       told = λ m is. c.in_ok-event.ensures.told m is c.levels_inside-inside.result map.0 (let low = c.requires.1 in let few = c.levels_inside-inside.ensures.few in omega arith) map.1;
+      over = c.in_ok-event.ensures.over c.levels_inside-inside.result map.0 map.1;
     }

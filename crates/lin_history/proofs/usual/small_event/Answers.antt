@@ -5,7 +5,7 @@ use Rattle.lin_history.specs.Table.{under}
 use Rattle.lin_history.specs.inner.Fields.{plain_view, value_of}
 use Rattle.lin_history.specs.inner.Small.{small_event}
 use Rattle.lin_history.specs.inner.Usual.{AreParts, IsPlaced, IsProcess}
-use Rattle.lin_history.proofs.Usuals.{numbers_tell, usual_told}
+use Rattle.lin_history.proofs.Usuals.{none_over, number_other, numbers_tell, usual_told}
 use Rattle.lin_history.proofs.usual.small_event.Goals as goal
 
 pub returns-clause-told : goal.returns-clause-told
@@ -28,3 +28,9 @@ returns-clause-told c = λ m keyed levels es low are.
     (c.in_ok-word_of-3.ensures levels _ (subst (IsPlaced s levels _) c.in_ok-places-2.was are.function))
     (subst (IsProcess process) c.in-Number.is c.in_ok-number.ensures) (sym (c.in_ok-event_type.ensures.run c.in_ok-places.field-0.at))
     (sym (c.in_ok-name.ensures.run c.in_ok-places-2.field-0.at)) tells
+
+pub returns-clause-over : goal.returns-clause-over
+returns-clause-over c = λ levels es are.
+    let s = c.args.text.now in
+    let process = run_value c.in_ok-place.place.at c.in_ok-word_of.field-0.now in
+    none_over es process (c.in_ok-word_of.ensures levels _ (subst (IsPlaced s levels _) c.in_ok-place.was are.process)) (number_other process c.in-Number.number (subst (IsProcess process) c.in-Number.is c.in_ok-number.ensures))

@@ -4,15 +4,15 @@ use Rattle.lin_names.specs.Spelled.{seen}
 use Rattle.lin_history.specs.Table.{under}
 use Rattle.lin_history.specs.inner.Fields.{plain_view, value_of}
 use Rattle.lin_history.specs.inner.Usual.{AreParts, IsPlaced, IsProcess}
-use Rattle.lin_history.proofs.Usuals.{usual_told, usual_named}
+use Rattle.lin_history.proofs.Usuals.{nemesis_other, none_over, number_other, usual_told, usual_nemesis}
 use Rattle.lin_history.proofs.usual.usual_event.Goals as goal
 
-pub returns-in-Named-clause-told : goal.returns-in-Named-clause-told
-returns-in-Named-clause-told c = λ m is levels es low are.
+pub returns-in-Nemesis-clause-told : goal.returns-in-Nemesis-clause-told
+returns-in-Nemesis-clause-told c = λ m is levels es low are.
     let s = c.args.text.now in
     let process = run_value c.in_ok-place.place.at c.in_ok-word_of.field-0.now in
-    usual_named m s levels es c.args.places process are
-    (c.in_ok-word_of.ensures levels _ (subst (IsPlaced s levels _) c.in_ok-place.was are.process)) (subst (IsProcess process) c.in-Named.is c.in_ok-number.ensures)
+    usual_nemesis m s levels es c.args.places process are
+    (c.in_ok-word_of.ensures levels _ (subst (IsPlaced s levels _) c.in_ok-place.was are.process)) (subst (IsProcess process) c.in-Nemesis.is c.in_ok-number.ensures)
 
 pub returns-in-Some-clause-told : goal.returns-in-Some-clause-told
 returns-in-Some-clause-told c = λ m is levels es low are.
@@ -41,3 +41,21 @@ returns-clause-told c = λ m is levels es low are.
     (c.in_ok-word_of-3.ensures levels _ (subst (IsPlaced s levels _) c.in_ok-places-2.was are.function))
     (subst (IsProcess process) c.in-Number.is c.in_ok-number.ensures) (sym (c.in_ok-event_type.ensures.run c.in_ok-places.field-0.at))
     (sym (c.in_ok-name.ensures.run c.in_ok-places-2.field-0.at)) (c.in_ok-told-2.ensures.told m is levels (under (codes ":value") es) low are.values)
+
+pub returns-in-Nemesis-clause-over : goal.returns-in-Nemesis-clause-over
+returns-in-Nemesis-clause-over c = λ levels es are.
+    let s = c.args.text.now in
+    let process = run_value c.in_ok-place.place.at c.in_ok-word_of.field-0.now in
+    none_over es process (c.in_ok-word_of.ensures levels _ (subst (IsPlaced s levels _) c.in_ok-place.was are.process)) (nemesis_other process (subst (IsProcess process) c.in-Nemesis.is c.in_ok-number.ensures))
+
+pub returns-in-Some-clause-over : goal.returns-in-Some-clause-over
+returns-in-Some-clause-over c = λ levels es are.
+    let s = c.args.text.now in
+    let process = run_value c.in_ok-place.place.at c.in_ok-word_of.field-0.now in
+    none_over es process (c.in_ok-word_of.ensures levels _ (subst (IsPlaced s levels _) c.in_ok-place.was are.process)) (number_other process c.in-Number.number (subst (IsProcess process) c.in-Number.is c.in_ok-number.ensures))
+
+pub returns-clause-over : goal.returns-clause-over
+returns-clause-over c = λ levels es are.
+    let s = c.args.text.now in
+    let process = run_value c.in_ok-place.place.at c.in_ok-word_of.field-0.now in
+    none_over es process (c.in_ok-word_of.ensures levels _ (subst (IsPlaced s levels _) c.in_ok-place.was are.process)) (number_other process c.in-Number.number (subst (IsProcess process) c.in-Number.is c.in_ok-number.ensures))

@@ -9,7 +9,7 @@ returns c =
     let h = c.args.leading_by.now.events.now in
     let call = c.args.leading_by.now.call in
     record {
-      same = c.in_ok-words.ensures.items ∙ c.as_slice-2.ensures.value;
+      same = c.in_ok-words.ensures;
       after = λ order is. c.in_ok-put_after.ensures
           ∙ ap (λ (l : List Placed). (c.new-after.result.items) ++ after_text names h l) (c.leading.ensures ∙ ap (λ (l : List Placed). leading_to call l) (c.as_slice.ensures.value ∙ c.in_ok-order.ensures order is))
           ∙ ap (λ l. l ++ after_text names h (leading_to call order)) c.new-after.ensures.items;

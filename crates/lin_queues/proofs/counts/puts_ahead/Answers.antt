@@ -1,6 +1,6 @@
 use Rattle.std.proofs.Common.{◌<◌, ◌≤◌, ◌+◌, ℕ, arith, sym, subst}
 use Rattle.std.proofs.lemmas.Option.{slice_get_within}
-use Rattle.lin_certificates.specs.BagConflicts.{AtMost}
+use Rattle.lin_certificates.specs.Numbers.{AtMost}
 use Rattle.lin_certificates.specs.lemmas.Counting.{most_more, most_of, most_same}
 use Rattle.lin_queues.specs.Ranks.{MayPut}
 use Rattle.lin_queues.proofs.counts.puts_ahead.Goals.{then-is_put_ahead, else-is_put_ahead}

@@ -1,5 +1,5 @@
 use Rattle.std.proofs.Common.{◌<◌, ◌≤◌}
-use Rattle.lin_certificates.specs.BagConflicts.{AtMost}
+use Rattle.lin_certificates.specs.Numbers.{AtMost}
 use Rattle.lin_queues.specs.Ranks.{MayPut}
 use Rattle.lin_queues.proofs.counts.puts_ahead.Given as goal
 

@@ -1,5 +1,5 @@
 use Rattle.std.proofs.Common.{◌<◌, ◌≤◌}
-use Rattle.lin_certificates.specs.BagConflicts.{AtLeast}
+use Rattle.lin_certificates.specs.Numbers.{AtLeast}
 use Rattle.lin_order.specs.Orders.{IsBefore}
 use Rattle.lin_queues.specs.Ranks.{HasPut}
 use Rattle.lin_queues.proofs.counts.puts_before.Given as goal

@@ -1,5 +1,5 @@
 use Rattle.std.proofs.Common.{◌<◌, ◌≤◌, ◌+◌, ℕ, arith, sym, subst}
-use Rattle.lin_certificates.specs.BagConflicts.{AtLeast}
+use Rattle.lin_certificates.specs.Numbers.{AtLeast}
 use Rattle.lin_certificates.specs.lemmas.Counting.{least_more, least_of, least_same}
 use Rattle.lin_queues.specs.Ranks.{HasTakenItem}
 use Rattle.lin_queues.proofs.counts.takes_from.Goals.{then-is_taken_from, else-is_taken_from}

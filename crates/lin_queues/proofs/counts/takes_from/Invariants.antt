@@ -1,5 +1,5 @@
 use Rattle.std.proofs.Common.{◌<◌, ◌≤◌}
-use Rattle.lin_certificates.specs.BagConflicts.{AtLeast}
+use Rattle.lin_certificates.specs.Numbers.{AtLeast}
 use Rattle.lin_queues.specs.Ranks.{HasTakenItem}
 use Rattle.lin_queues.proofs.counts.takes_from.Given as goal
 

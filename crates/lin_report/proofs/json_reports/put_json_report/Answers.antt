@@ -16,10 +16,10 @@ returns c =
     let names = c.args.names.now in
     let now = c.args.session.now.present in
     let found = c.args.found.now in
-    let front = objects_front names (failing_key found.whole found.objects.items) (answer_status found.whole) (answer_text found.whole) (length now.history) in
+    let front = objects_front names (failing_key found.whole found.objects.items) (answer_status found.whole) (answer_text found.whole) (length now.history) c.args.passed in
     let objects = json_objects names (kinds_in now) found.objects.items in
-    let first : c.put_front.new.text.items ≡ c.args.text.now.items ++ front = rw (c.len-events.ensures, c.deref.ensures.value) at c.in_ok-put_front.ensures in
-    let next : c.put_each.new.text.items ≡ c.put_front.new.text.items ++ objects = rw c.deref-2.ensures.value at c.in_ok-put_each.ensures in
+    let first : c.put_front.new.text.items ≡ c.args.text.now.items ++ front = rw c.len-events.ensures at c.in_ok-put_front.ensures in
+    let next : c.put_each.new.text.items ≡ c.put_front.new.text.items ++ objects = rw c.deref.ensures.value at c.in_ok-put_each.ensures in
     let both = put_next c.args.text.now.items c.put_front.new.text.items c.put_each.new.text.items front objects first next in
     let all = put_last c.extend_from_slice.result c.args.text.now.items c.put_each.new.text.items c.extend_from_slice.new.self.items (front ++ objects) (codes "]}\n") both
     (if_put c.extend_from_slice.result c.extend_from_slice.new.self.items (c.put_each.new.text.items ++ codes "]}\n") c.put_each.new.text.items c.extend_from_slice.ensures.items) in

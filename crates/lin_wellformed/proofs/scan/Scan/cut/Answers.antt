@@ -8,7 +8,7 @@ returns-then-self-at-clause-right c = λ kinds other h edited right agree. right
 pub returns-then-at-count-clause-right : goal.returns-then-at-count-clause-right
 returns-then-at-count-clause-right c = λ kinds other h edited right agree.
     let laws = c.bad_positions.ensures in
-    let fewer = right_fewer laws.beginnings kinds h c.args.self.now c.args.at c.cut.new.self right (omega arith) (omega arith) c.cut.ensures.before in
+    let fewer = right_fewer laws.beginnings kinds h c.args.self.now c.args.at c.cut.new.self right (omega arith) c.cut.ensures in
     right_alike laws.functions c.args.at kinds other h edited _ (omega arith) agree fewer
 
 pub returns-else-at-count-clause-right : goal.returns-else-at-count-clause-right

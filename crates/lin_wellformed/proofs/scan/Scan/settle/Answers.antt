@@ -1,5 +1,4 @@
 use Rattle.std.proofs.Common.{◌≡◌, ◌+◌, ◌-◌, ◌<◌, ◌≤◌, length, inl, inr, refl, ap, ◌∙◌, sym, subst, arith, true≢false}
-use Rattle.std.proofs.lemmas.Option.{slice_get_read}
 use Rattle.lin_events.specs.declared.meter.Meter.{Meter}
 use Rattle.lin_events.specs.Meters.{ticked}
 use Rattle.lin_objects.specs.Kinds.{kind_of}
@@ -23,9 +22,8 @@ pub loop-self-preserved : goal.loop-self-preserved
 loop-self-preserved c =
     let h = c.args.events.now in
     let now = c.loop-self.self in
-    let stands = slice_get_read h (length h) now.ready c.index-events-self.result refl c.loop-self-test.true c.index-events-self.is in
     settling_next (kind_of c.args.kinds.now) h c.args.self.now now c.take_in.new.self c.args.meter.now c.loop-self.meter c.tick_scan.new.self c.loop-self.invariant (c.is_good.ensures.0 c.if-is_good.true)
-    (c.in_ok-take_in.ensures.right h c.loop-self.invariant.right stands) c.in_ok-take_in.ensures.ready c.in_ok-take_in.ensures.looked c.tick_scan.ensures
+    c.in_ok-take_in.ensures.right c.in_ok-take_in.ensures.ready c.in_ok-take_in.ensures.looked c.tick_scan.ensures
 
 pub returns-in_err-take_in-clause-right : goal.returns-in_err-take_in-clause-right
 returns-in_err-take_in-clause-right c = subst (λ s. IsRight s (kind_of c.args.kinds.now) c.args.events.now) (sym c.in_err-take_in.ensures.err) c.loop-self.invariant.right

@@ -1,20 +1,30 @@
-use Rattle.std.proofs.Common.{◌≡◌, ◌≤◌, [], ◌∷◌, ◌++◌, ap, ◌∙◌, subst, unwrap_or}
-use Rattle.lin_events.specs.declared.shapes.ProcessStatus.TheVariants.{Idle}
-use Rattle.lin_wellformed.specs.declared.tables.Change.{Change}
-use Rattle.lin_wellformed.specs.Tables.{Statuses, count_in, status_at}
-use Rattle.lin_wellformed.proofs.TableLemmas.{same_before, status_put, status_put_back}
+use Rattle.std.proofs.Common.{[], ◌∷◌, ◌++◌, OnErr, Result, Ok, Err, ◌∙◌, ap, subst, sym}
+use Rattle.lin_wellformed.specs.Tables.{AreListed, IsLastPlace, processes_in}
+use Rattle.lin_wellformed.proofs.TableLemmas.{same_processes, last_as, still_listed, one_listed, one_process}
 use Rattle.lin_wellformed.proofs.tables.Table.take_in.Goals as goal
 
-pub returns-in-Ok-clause-before : goal.returns-in-Ok-clause-before
-returns-in-Ok-clause-before c = λ k process upto.
-    let old = c.self.inside.processes.entries in
-    let new = c.insert.new.self.entries in
-    let changed = c.args.event.now.process in
-    let last : Change = record { process = changed; before = c.unwrap_or-before.result } in
-    let was = c.unwrap_or-before.ensures ∙ ap (λ o. unwrap_or o Idle) c.in-Ok.ensures.old in
-    let puts = status_put old new changed c.status_after.result c.in-Ok.ensures.updates.0 in
-    let back = status_put_back old new changed c.status_after.result c.unwrap_or-before.result was puts in
-    let items = c.push_reserved.ensures.items ∙ ap (λ l. l ++ last ∷ []) c.reserve.ensures.items in
-    let after : Statuses = record { listed = new; changes = c.push_reserved.new.self.items } in
-    subst (λ (t : Statuses). k ≤ count_in t → status_at after k process ≡ status_at t k process) c.self.view_is
-    (λ inside. ap (λ l. status_at (record { listed = new; changes = l }) k process) items ∙ same_before c.self.inside.changes.items last old new back k process inside) upto
+pub invariant_of-self-in_err-last : goal.invariant_of-self-in_err-last
+invariant_of-self-in_err-last c = subst (AreListed c.number.new.self) (sym c.in_err-last.ensures.err) (still_listed c.self.inside.numbers c.number.new.self c.self.inside.events c.number.ensures.kept c.self.invariant)
+
+on_err : {T E P : Type 0} (r : Result T E) → P → OnErr r P
+on_err (Ok x) p = tt
+on_err (Err e) p = p
+
+pub returns-in_err-last-clause-err : goal.returns-in_err-last-clause-err
+returns-in_err-last-clause-err c = on_err c.from_residual-in_err-last.result (ap (processes_in c.number.new.self) c.in_err-last.ensures.err ∙ same_processes c.self.inside.numbers c.number.new.self c.self.inside.events c.number.ensures.kept c.self.invariant ∙ c.self.view_is)
+
+pub invariant_of-self-2 : goal.invariant_of-self-2
+invariant_of-self-2 c = subst (AreListed c.number.new.self) (sym c.in_ok-last.ensures.pushed)
+    (one_listed c.number.new.self c.self.inside.events c.in_ok-number.number c.args.process c.in_ok-number.ensures.number (still_listed c.self.inside.numbers c.number.new.self c.self.inside.events c.number.ensures.kept c.self.invariant))
+
+pub returns-clause-last : goal.returns-clause-last
+returns-clause-last c =
+    let listed = still_listed c.self.inside.numbers c.number.new.self c.self.inside.events c.number.ensures.kept c.self.invariant in
+    let same = same_processes c.self.inside.numbers c.number.new.self c.self.inside.events c.number.ensures.kept c.self.invariant ∙ c.self.view_is in
+    subst (λ l. IsLastPlace l c.args.process c.in_ok-last.last) same
+    (last_as c.number.new.self c.self.inside.events c.in_ok-number.number c.args.process c.number.ensures.once listed c.in_ok-number.ensures.number c.in_ok-last.last c.in_ok-last.ensures.last)
+
+pub returns-clause-taken : goal.returns-clause-taken
+returns-clause-taken c =
+    let same = same_processes c.self.inside.numbers c.number.new.self c.self.inside.events c.number.ensures.kept c.self.invariant ∙ c.self.view_is in
+    ap (processes_in c.number.new.self) c.in_ok-last.ensures.pushed ∙ one_process c.number.new.self c.self.inside.events c.in_ok-number.number c.args.process c.in_ok-number.ensures.number ∙ ap (λ l. l ++ c.args.process ∷ []) same

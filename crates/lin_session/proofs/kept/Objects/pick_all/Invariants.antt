@@ -1,0 +1,19 @@
+use Rattle.std.proofs.Common.{◌≡◌, ◌<◌, ◌≤◌, ◌-◌, ℕ, length}
+use Rattle.lin_events.specs.declared.items.Item.{Item}
+use Rattle.lin_objects.specs.declared.kinds.Kind.{Kind}
+use Rattle.lin_session.specs.Objects.{AreRight, split_in}
+use Rattle.lin_session.specs.inner.Objects.{marks_in}
+use Rattle.lin_session.specs.Known.{AreSameMarks}
+use Rattle.lin_session.proofs.kept.Objects.pick_all.Given as goal
+
+abbrev pub invariant-loop-self : goal.invariant-loop-self
+invariant-loop-self l = record {
+  more : split_in l.fn.self < split_in l.self;
+  within : split_in l.self ≤ length l.events;
+  keys : l.self.keys ≡ l.fn.self.keys;
+  right : (kinds : Item → Kind) (budget : ℕ) → AreRight l.fn.self kinds budget l.events → AreRight l.self kinds budget l.events;
+  marks : AreSameMarks (marks_in l.fn.self) (marks_in l.self);
+}
+
+abbrev pub decreases-loop-self : goal.decreases-loop-self
+decreases-loop-self l = length l.events - l.self.split
