@@ -32,7 +32,7 @@ WORDS = "any of these, from the words of the command line to the exit status"
 COMMANDS = {
     "`check`": {"lin_report": ["check"]},
     "`verify`": {"lin_formats": ["verify"]},
-    "`explain`": {"lin_report": ["explain_or_refuse"]},
+    "`explain`": {"lin_report": ["explain"]},
     "`draw`": {"lin_report": ["draw"]},
     "`edit`": {"lin_report": ["run"]},
     WORDS: {"lin_program": ["run_words", "end_without_words"]},

@@ -25,7 +25,7 @@ sys.dont_write_bytecode = True
 from certificates import rank, wanted
 from edits import KINDS, NAMES, Event, Model, edn
 from judges import NO_REASON, NUMBER, STATUS, Judge, Told, Wrong, compact, head, judge_report
-from rows import built, maps
+from rows import built, maps, quoted
 
 HISTORIES = 3000
 
@@ -258,6 +258,16 @@ class Choosing(Judge):
         return form
 
 
+def absence(model, key):
+    """What is told where no event has the key that is asked about; None where one has it, or none is asked about."""
+    keys = sorted({event.key for event in model.events})
+    if key is None or key in keys:
+        return None
+    there = ', '.join(map(str, keys[:8])) + ' and %d more' % (len(keys) - 8) * (len(keys) > 8)
+    told = '; the keys are ' + there if len(keys) > 1 else '; the key is ' + there if keys else ', and there are no others'
+    return 'no event has key %d%s' % (key, told)
+
+
 class Run:
     """Runs of the program on one recording."""
 
@@ -274,10 +284,17 @@ class Run:
 
     def run(self, words, commands='', told=''):
         done = subprocess.run([self.program] + words, input=commands, cwd=self.folder, capture_output=True, text=True)
-        told = 'lincheck: FILE: %s\n' % '; '.join(self.refusal[1:]) if self.refusal is not None and words[0] == 'check' else told
+        told = self.note() if self.refusal is not None and words[0] == 'check' else told
         if done.stderr != told or done.stdout and not done.stdout.endswith('\n'):
             raise Wrong('the last line has no end, or standard error has something else than is wanted there: %s' % done.stderr)
         return done.stdout.split('\n')[:-1], done.returncode
+
+    def note(self):
+        """What is told beside a report of a refused file."""
+        lines = '; '.join(self.refusal[1:])
+        place = re.match(r'line \d+, byte (\d+): ', lines)
+        is_quoted = place and not self.refusal[0].startswith('refused input truncated')
+        return 'lincheck: FILE: %s%s\n' % (lines, quoted(self.text.encode()[int(place[1]):]).decode() if is_quoted else '')
 
     def options(self, budget):
         return ['--kind', self.model.default] + ['--keyed'] * self.model.keyed + ['--budget', str(budget)] * (budget != 65536)
@@ -295,18 +312,16 @@ class Run:
 
     def is_absent(self, words, key):
         """Whether no event has the key. If none has, the run prints nothing and tells which keys there are."""
-        keys = sorted({event.key for event in self.model.events})
-        if self.refusal is not None or key is None or key in keys:
+        told = absence(self.model, key)
+        if self.refusal is not None or told is None:
             return False
-        there = ', '.join(map(str, keys[:8])) + ' and %d more' % (len(keys) - 8) * (len(keys) > 8)
-        told = '; the keys are ' + there if len(keys) > 1 else '; the key is ' + there if keys else ', and there are no others'
 
         def judge(lines, status):
             if lines or status != 5:
                 raise Wrong('status %d, and no event has the key' % status)
 
         self.counts['key of no event'] += 1
-        self.judged(words, judge, told='lincheck: FILE: no event has key %d%s\n' % (key, told))
+        self.judged(words, judge, told='lincheck: FILE: %s\n' % told)
         return True
 
     def explain(self, budget, key, with_order):
@@ -376,7 +391,10 @@ class Run:
     def explained(self, told, model, key):
         """A reply to `explain`: how many lines, and the lines."""
         size = int(told.match('explained (%s)' % NUMBER)[1])
-        return Choosing(model, None, self.counts).explanation([told.take() for _ in range(size)], key, False)
+        lines, absent = [told.take() for _ in range(size)], absence(model, key)
+        if absent is not None and lines.pop() != absent:
+            raise Wrong('the last line has to be: %s' % absent)
+        return Choosing(model, None, self.counts).explanation(lines, key, False)
 
 
 def random_runs(program, number, seed):

@@ -1,5 +1,5 @@
 #!/usr/bin/env python3
-"""What the program tells of a reading that takes long: a line on a terminal, and nothing elsewhere.
+"""What the program tells of a reading that takes long: a line on a terminal, and nothing elsewhere; and of a file that became shorter while it was read.
 
 Standard error is a pseudo terminal, a pipe or a file, and the history comes through a FIFO in some 2.5 seconds, or stands in a file. What the
 terminal has to show is a line at most once a second, over itself, and at the end of the reading, before the answer, an empty line. Standard output
@@ -170,6 +170,24 @@ class Case:
         given = b'pull\npull\n'
         self.see(run_on_terminal([self.program, 'edit', self.file(QUICK)], given, LATE), QUICK, ['edit'], given)
 
+    def shorter(self):
+        """A file that becomes shorter than what was pulled from it, which is told once, and then longer again."""
+        path = self.file(QUICK)
+        process = subprocess.Popen([self.program, 'edit', path], stdin=subprocess.PIPE, stdout=subprocess.PIPE, stderr=subprocess.PIPE, bufsize=0)
+        replies = []
+        for text in (None, QUICK[:1000], QUICK[:2000], QUICK + HISTORY[:len(PAIR % (0, 0))]):
+            if text is not None:
+                self.file(text)
+            for command in (b'pull\n', b'pull\n'):
+                process.stdin.write(command)
+                replies.append(process.stdout.readline())
+        process.stdin.close()
+        events = QUICK.count(b'\n')
+        wanted = [b'ok %d\n' % events] * 6 + [b'ok %d\n' % (events + 2)] * 2
+        told = process.stderr.read()
+        if replies != wanted or told != b'lincheck: %s: it is shorter than what was read of it\n' % path.encode() or process.wait():
+            raise Wrong('%r and %r' % (replies, told))
+
     def standard_input(self):
         self.see(run_on_terminal([self.program, 'check', '-'], HISTORY, LATE), HISTORY)
 
@@ -185,6 +203,7 @@ CASES = [
     Case.errors_in_file,
     Case.quick,
     Case.late,
+    Case.shorter,
     Case.standard_input,
 ]
 
@@ -209,7 +228,7 @@ def has_terminals():
 
 def main():
     program = os.path.abspath(os.environ.get('LINCHECK') or built())
-    cases = CASES if has_terminals() else [Case.refused_pipe, Case.pipe, Case.errors_in_file]
+    cases = CASES if has_terminals() else [Case.refused_pipe, Case.pipe, Case.errors_in_file, Case.shorter]
     if cases is not CASES:
         print('no pseudo terminal can be made here: only what is told elsewhere is looked at')
     with ThreadPoolExecutor(len(cases)) as pool:

@@ -89,6 +89,18 @@ HINTS = [  # what may help, behind the rule
 CRAMPED = 'import os, resource, sys; size = int(sys.argv[1]); resource.setrlimit(resource.RLIMIT_FSIZE, (size, size)); os.execv(sys.argv[2], sys.argv[2:])'
 
 
+def quoted(found):
+    """What is told of what stands at a place: up to 120 bytes, to the end of the line and of the text."""
+    if not re.match(rb'[ -~]', found):
+        return b''
+    shown = b'; it reads ' + re.match(rb'[^\0-\x1f]*', found[:120])[0]
+    shown += b'..' if len(shown) == 131 and len(found) > 120 else b''
+    try:
+        return shown.decode().encode()
+    except UnicodeDecodeError as error:
+        return shown[:error.start]
+
+
 def unescaped(text):
     return text.encode('latin-1').decode('unicode_escape').encode('latin-1')
 
@@ -206,11 +218,13 @@ class Row:
         rest = note[3][len(REFUSED[why]):]
         for hint in HINTS:
             rest = rest.removeprefix(hint)
-        if rest or (why in PLACELESS) != (note[1] is None):
+        if (why in PLACELESS) != (note[1] is None):
             return False
         if why in PLACELESS:
-            return True
+            return not rest
         line, byte = int(note[1]), int(note[2])
+        if rest != (b'' if why == b'truncated' else quoted(history[byte:])):
+            return False
         is_inside = why.startswith(b'event') and history[int(at):int(at) + 1] in (b'[', b'(', b'#')
         return (int(at) < byte < len(history) if is_inside and byte != int(at) else byte == int(at)) and line == 1 + history[:byte].count(b'\n')
 

@@ -6,7 +6,7 @@
  * A call gives what the command of the same name exits with: 0 yes, 1 no, 2 undecided, 3 ill-formed, 4 refused. Then its text stands at the
  * beginning of `room`, and its length in `*needed`; what stood behind it in `room` is as it was. Else:
  *
- *   5  the options, or the key, say nothing
+ *   5  the options, or the key, say nothing, or no event of the history has the key
  *   6  memory was refused, or the history has more than 1,099,511,627,776 bytes
  *   7  the handle holds no session
  *   8  the text has more bytes than `room`, and `*needed` is how many; `room` is as it was. A second call finds the answer anew.

@@ -1,9 +1,9 @@
 -- What is handed back is right where the text is.
 use Rattle.std.proofs.Common.{ℕ, List, sym, subst}
 use Rattle.lin_texts.specs.declared.status.Status.{Status}
-use Rattle.lin_embedded.specs.Calls.{HandsBack, IsJust, Telling}
+use Rattle.lin_embedded.specs.Calls.{HandsBack, HandsExplained, IsJust, Telling}
 use Rattle.lin_embedded.specs.declared.handing.CallEnd.{CallEnd}
-use Rattle.lin_embedded.specs.declared.handing.CallEnd.TheVariants.{Told, BadOptions, OutOfMemory, TooLittleRoom, Done, NoSession}
+use Rattle.lin_embedded.specs.declared.handing.CallEnd.TheVariants.{Told, BadOptions, NoKey, OutOfMemory, TooLittleRoom, Done, NoSession}
 
 module _ (is_right : Telling) (found : List ℕ) (ends : Status) (right : is_right found ends) where
   as_found : (text : List ℕ) (status : Status) → IsJust found ends text status → is_right text status
@@ -16,3 +16,15 @@ module _ (is_right : Telling) (found : List ℕ) (ends : Status) (right : is_rig
   hands before after was needed OutOfMemory it = it
   hands before after was needed Done it = it
   hands before after was needed NoSession it = it
+  hands before after was needed NoKey it = it
+
+  -- the same of an explanation, whatever is absent
+  pub hands_explained : (is_absent : Type 0) (before after : List ℕ) (was needed : ℕ) (ended : CallEnd) → HandsBack (IsJust found ends) before after was needed ended
+      → HandsExplained is_right is_absent before after was needed ended
+  hands_explained is_absent before after was needed (Told status) it = hands before after was needed (Told status) it
+  hands_explained is_absent before after was needed TooLittleRoom it = hands before after was needed TooLittleRoom it
+  hands_explained is_absent before after was needed BadOptions it = it
+  hands_explained is_absent before after was needed OutOfMemory it = it
+  hands_explained is_absent before after was needed Done it = absurd it
+  hands_explained is_absent before after was needed NoSession it = absurd it
+  hands_explained is_absent before after was needed NoKey it = absurd it

@@ -9,7 +9,7 @@ use Rattle.lin_embedded.specs.declared.recorder.Recorder.{Recorder}
 use Rattle.lin_embedded.specs.Calls.{HandsBack, IsJust}
 use Rattle.lin_embedded.specs.Sessions.{Calls, OrdersAs}
 use Rattle.lin_embedded.specs.declared.handing.CallEnd.{CallEnd}
-use Rattle.lin_embedded.specs.declared.handing.CallEnd.TheVariants.{Told, BadOptions, OutOfMemory, TooLittleRoom, Done, NoSession}
+use Rattle.lin_embedded.specs.declared.handing.CallEnd.TheVariants.{Told, BadOptions, NoKey, OutOfMemory, TooLittleRoom, Done, NoSession}
 
 -- what was told of a piece, field by field
 pub fed_so : (piece : List ℕ) (r r' : Recorder) (intake : Intake) (is_refused : Bool) → intake.is_refused ≡ is_refused
@@ -38,3 +38,4 @@ handed_back r r' old new held holds ordered orders status is before after was ne
     by_end BadOptions it not_bad = (r, r', held, holds, (Ok ordered, orders, it, not_bad))
     by_end Done it not_bad = absurd it
     by_end NoSession it not_bad = absurd it
+    by_end NoKey it not_bad = absurd it

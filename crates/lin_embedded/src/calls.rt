@@ -1,6 +1,6 @@
 //! Calls that ask about bytes once.
 ghost use Rattle.std.specs.Prelude.{◌≡◌, ◌↔◌};
-ghost use Rattle.lin_embedded.specs.Calls.{HandsBack, IsExplanationOf, IsReportOf};
+ghost use Rattle.lin_embedded.specs.Calls.{HandsBack, HandsExplained, IsAbsent, IsExplanationOf, IsReportOf};
 ghost use Rattle.lin_embedded.specs.Options.{AreOptions, NamesNone};
 
 use crate::asking::{explanation, report};
@@ -30,7 +30,7 @@ pub fn check(
 }
 
 /// Tells why the history of these bytes is linearizable or not, or isn't decided, for the object of the key that a text names, or for the whole
-/// where that text is empty: as `check` does.
+/// where that text is empty: as `check` does. Nothing is told where no event of a whole history has the key.
 pub fn explain(
     alloc: Global,
     options: Options,
@@ -39,7 +39,7 @@ pub fn explain(
     room: &mut [u8],
     needed: &mut usize,
 ) -> CallEnd
-    ensures hands { HandsBack (IsExplanationOf options key.now history.now) room.old room.new needed.old needed.new result }
+    ensures hands { HandsExplained (IsExplanationOf options key.now history.now) (IsAbsent options key.now history.now) room.old room.new needed.old needed.new result }
     ensures bad { (result ≡ CallEnd.BadOptions) ↔ (AreOptions options × (NamesNone key.now → ⊥) → ⊥) }
 {
     if !are_options(options) {
@@ -49,7 +49,8 @@ pub fn explain(
         return CallEnd::BadOptions;
     };
     match explanation(alloc, settings_of(options), question, history) {
-        Ok(found) => hand_back(&found, room, needed),
+        Ok(Some(found)) => hand_back(&found, room, needed),
+        Ok(None) => CallEnd::NoKey,
         Err(_) => CallEnd::OutOfMemory,
     }
 }

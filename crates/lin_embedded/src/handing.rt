@@ -19,6 +19,8 @@ pub enum CallEnd {
     Told(Status),
     /// The options say nothing, or the key's text names no key.
     BadOptions,
+    /// No event of the history has the key.
+    NoKey,
     /// Memory was refused, or the history has more than 1,099,511,627,776 bytes.
     OutOfMemory,
     /// The text is longer than the room.
@@ -49,7 +51,7 @@ impl CallEnd {
     {
         match self {
             CallEnd::Told(status) => status_number(status),
-            CallEnd::BadOptions => 5,
+            CallEnd::BadOptions | CallEnd::NoKey => 5,
             CallEnd::OutOfMemory => 6,
             CallEnd::NoSession => 7,
             CallEnd::TooLittleRoom => 8,

@@ -1,4 +1,4 @@
-//! What is told beside a report of a file that is refused: where, and the rule, as an explanation has it.
+//! What is told beside a report of a file that is refused: where, and the rule, as an explanation has it, and what stands there.
 ghost use Rattle.std.specs.Prelude.{IfOk, IfSome};
 ghost use Rattle.lin_program.specs.Endings.{IsStillRefused, MayTellWhy};
 
@@ -6,6 +6,9 @@ use crate::system::{Message, System};
 use lin_formats::{Counted, History, RunFault, Settings, read_placed, refusal_lines};
 use lin_names::Names;
 use std::alloc::{AllocError, Global};
+
+/// How many bytes are told of what stands at a place.
+const TOLD: usize = 120;
 
 /// Lines as one, without the end of the last one.
 fn as_one(alloc: Global, lines: &[u8]) -> Result<Vec<u8>, AllocError> {
@@ -19,6 +22,36 @@ fn as_one(alloc: Global, lines: &[u8]) -> Result<Vec<u8>, AllocError> {
     let count = words.len();
     words.truncate(count.saturating_sub(2));
     Ok(words)
+}
+
+/// Puts last what stands at the place of a fault, up to the end of the line; of what doesn't begin as text, nothing.
+fn put_found(words: &mut Vec<u8>, bytes: &[u8]) -> Result<(), AllocError> {
+    if !matches!(bytes.first(), Some(b' '..=b'~')) {
+        return Ok(());
+    }
+    words.extend_from_slice(b"; it reads ")?;
+    let (shown, rest) = bytes.split_at_checked(TOLD).unwrap_or((bytes, b""));
+    for byte in shown {
+        if *byte < b' ' {
+            return Ok(());
+        }
+        words.push(*byte)?;
+    }
+    if !rest.is_empty() {
+        words.extend_from_slice(b"..")?;
+    }
+    Ok(())
+}
+
+/// The beginning of the words that is text: what a file spells may be none.
+fn text_of(words: &[u8]) -> &str {
+    match std::str::from_utf8(words) {
+        Ok(text) => text,
+        Err(error) => match words.get(..error.valid_up_to()) {
+            Some(beginning) => std::str::from_utf8(beginning).unwrap_or(""),
+            None => "",
+        },
+    }
 }
 
 /// Why the file of this name is refused, as it stands now; nothing where it isn't, or can't be opened once more.
@@ -39,7 +72,9 @@ fn words_of<S: System>(
     match read_placed(alloc, keyed, least, &mut file, &mut names)? {
         (History::Refused(refusal), placed) => {
             let lines = refusal_lines(alloc, refusal, &placed)?;
-            Ok(Some(as_one(alloc, lines.as_slice())?))
+            let mut words = as_one(alloc, lines.as_slice())?;
+            put_found(&mut words, placed.places.from_bad().unwrap_or(b""))?;
+            Ok(Some(words))
         }
         _ => Ok(None),
     }
@@ -52,7 +87,6 @@ pub fn tell_file<S: System>(alloc: Global, system: &mut S, settings: Settings, n
     let Ok(Some(words)) = words_of(alloc, &*system, settings, name) else {
         return;
     };
-    if let Ok(words) = std::str::from_utf8(&words) {
-        let _is_told = system.tell(&Message::Refused(name, words));
-    }
+    let words = text_of(&words);
+    let _is_told = system.tell(&Message::Refused(name, words));
 }

@@ -10,7 +10,7 @@ use crate::words::Format;
 use lin_formats::{Counted, RunFault, Settings, Status};
 use lin_json::{put_file_front, put_unopened};
 use lin_names::Said;
-use lin_report::{Question, RunEnding, check, draw, explain_or_refuse};
+use lin_report::{Question, RunEnding, check, draw, explain};
 use std::alloc::{AllocError, Global};
 use std::io::{Read, Write};
 
@@ -66,9 +66,7 @@ impl<'a> Task<'a> {
     {
         match self {
             Task::Check(settings, format) => answered(check(alloc, settings, format, file, out)),
-            Task::Explain(settings, question) => {
-                explain_or_refuse(alloc, settings, question, file, out)
-            }
+            Task::Explain(settings, question) => explain(alloc, settings, question, file, out),
             Task::Draw(settings, key, last) => draw(alloc, settings, key, last, file, out),
             Task::Verify(settings, order) => {
                 answered(verify_text(alloc, settings, order, file, out))

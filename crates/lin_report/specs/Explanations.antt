@@ -32,7 +32,7 @@ use Rattle.lin_explain.specs.declared.parts.Parts.{Parts}
 use Rattle.lin_explain.specs.declared.telling.Asked.{Asked}
 use Rattle.lin_json.specs.Explanations.{explanation_json, refusal_json}
 use Rattle.lin_report.specs.Failing.{first_failing}
-use Rattle.lin_report.specs.AskedKeys.{HasEvents, IsAskedRun, IsKey}
+use Rattle.lin_report.specs.AskedKeys.{HasEvents, IsAbsence, IsAskedRun, IsKey}
 use Rattle.lin_report.specs.Reports.{AreFindings, HasFound, Printing, answer_status, answer_text, opened, told_text}
 use Rattle.lin_report.specs.declared.asked_keys.RunEnding.{RunEnding}
 use Rattle.lin_report.specs.declared.beside.Beside.{Beside}
@@ -113,10 +113,15 @@ module _ (names : List (List ℕ)) where
     pub says : text ≡ explanation_text format (length now.history) (verdict_of answer) lines parts beside
     pub status_is : status ≡ answer_status (verdict_of answer)
 
-  -- the reply to a command: how many lines follow, and they; events that come by commands have no places
+  -- what is told behind an explanation for a key that no event has, a line that says so; else nothing
+  abbrev pub IsToldBehind : List Event → Option Item → List ℕ → Type 0
+  IsToldBehind events key line = (HasEvents events key × (line ≡ [])) ⊎ ((words : List ℕ) × IsAbsence names events key words × (line ≡ words ++ codes "\n"))
+
+  -- The reply to a command: how many lines follow, and they, with a line more for a key that no event has. Events that come by commands have no places.
   abbrev pub IsExplainReply : Bool → Present → Scope → List ℕ → Option Status → Type 0
   IsExplainReply keyed now scope reply status = (text : List ℕ) × (found : Status) × IsExplanation Text now (asked_by keyed scope) None text found
-      × (reply ≡ codes "explained " ++ decimal (line_count text) ++ codes "\n" ++ text) × (status ≡ Some found)
+      × (line : List ℕ) × IsToldBehind now.history (key_of scope) line
+      × (reply ≡ codes "explained " ++ decimal (line_count (text ++ line)) ++ codes "\n" ++ (text ++ line)) × (status ≡ Some found)
 
 abbrev pub is_yes : Verdict → Bool
 is_yes (IllFormed at cause) = false
@@ -182,21 +187,17 @@ abbrev pub asked_in : Settings → Question → Option Item → Asked
 asked_in settings question key = record { key = key; with_order = question.with_order; keyed = settings.keyed }
 
 -- What is right to print of the bytes of a file, with the status: why they are refused, and where; or an explanation of the history that they
--- are, for the object of the key that is said, the whole, or each object that isn't a yes, where this is so of the events and the key. The places are
--- those that the bytes have.
-abbrev pub IsExplanationWhere : (List Event → Option Item → Type 0) → Settings → Question → Printing
-IsExplanationWhere is_so settings question bytes left text status = (names : List (List ℕ)) × AreEachOnce names
+-- are, for the object of the key that is said, which an event has, the whole, or each object that isn't a yes. The places are those that the bytes
+-- have.
+abbrev pub IsRightExplanation : Settings → Question → Printing
+IsRightExplanation settings question bytes left text status = (names : List (List ℕ)) × AreEachOnce names
     × (marked : Marked) × ((m : Reading) → IsReading settings.keyed names m → Marks m marked bytes) × (marked.keyed ≡ settings.keyed)
     × (((refusal : Refusal) × AreRefusedFor settings.keyed names settings.at_least bytes refusal × StopsFor refusal left
     × ((hint : List ℕ) × IsHint settings.keyed bytes marked refusal hint × (text ≡ refused_told question.format marked refusal hint)) × (status ≡ ends.Refused))
     ⊎ ((events : List Event) × IsEnough settings.keyed names settings.at_least bytes events × IsAtEnd left × (key : Option Item) × IsKey names question.key key
-    × is_so events key × IsToldFor names question.all_keys question.format (opened settings events) (asked_in settings question key) (Some marked.places) text status))
-
--- an explanation, also for a key that no event has
-abbrev pub IsRightExplanation : Settings → Question → Printing
-IsRightExplanation settings question = IsExplanationWhere (λ events key. Unit {0}) settings question
+    × HasEvents events key × IsToldFor names question.all_keys question.format (opened settings events) (asked_in settings question key) (Some marked.places) text status))
 
 -- What a run reads and writes, and how it ends. It explains the object of a key only where an event has the key.
 abbrev pub IsExplainRun : Settings → Question → Option (List ℕ) → Option (List ℕ) → Option (List ℕ) → Option (List ℕ) → Result RunEnding RunFault → Type 0
 IsExplainRun settings question old new before after result =
-    IsAskedRun (IsExplanationWhere HasEvents settings question) settings question.key old new before after result
+    IsAskedRun (IsRightExplanation settings question) settings question.key old new before after result

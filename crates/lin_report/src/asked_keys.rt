@@ -1,8 +1,9 @@
 //! Keys that are asked about, and what is told of one that no event has.
-ghost use Rattle.std.specs.Prelude.{◌≡◌, ◌<◌, ◌++◌, IfOk, MatchOption, OnOk};
+ghost use Rattle.std.specs.Prelude.{◌≡◌, ◌↔◌, ◌<◌, ◌⊎◌, ◌++◌, [], Contains, IfOk, IsTrue, MatchOption, OnOk, codes};
 ghost use Rattle.std.specs.List.{list_any};
 ghost use Rattle.lin_events.specs.Items.{item_eq};
 ghost use Rattle.lin_answers.specs.Keys.{AreKeys};
+ghost use Rattle.lin_report.specs.Explanations.{IsToldBehind};
 ghost use Rattle.lin_report.specs.AskedKeys.{HasEvents, IsAbsence, absence_text, first_keys, keys_text, listed_keys};
 
 use crate::checks::Answered;
@@ -11,6 +12,7 @@ use lin_events::{Event, Item, OutOfMemory};
 use lin_formats::{Status, put_item, put_number};
 use lin_names::Names;
 use lin_objects::{Kind, Kinds};
+use lin_session::Session;
 use std::alloc::{AllocError, Global};
 
 /// How many keys are named where there are more.
@@ -108,6 +110,41 @@ fn absence_words(
     put_item(&mut words, names, key)?;
     put_keys(&mut words, names, keys)?;
     Ok(words)
+}
+
+/// Whether the key is one of these.
+fn is_among(keys: &[Item], key: Item) -> bool
+    ensures { IsTrue result ↔ Contains keys.now key }
+{
+    keys.contains(&key)
+}
+
+/// The line that says that the key is none of these, with a line end; nothing where it is one.
+fn line_for(alloc: Global, names: &Names, key: Item, keys: &[Item]) -> Result<Vec<u8>, AllocError>
+    ensures { IfOk result (λ line. (Contains keys.now key × (line.items ≡ [])) ⊎ ((Contains keys.now key → ⊥) × (line.items ≡ absence_text names.now key keys.now ++ codes "\n"))) }
+{
+    if is_among(keys, key) {
+        return Ok(Vec::new(alloc));
+    }
+    let mut line = absence_words(alloc, names, key, keys)?;
+    line.push(b'\n')?;
+    Ok(line)
+}
+
+/// The line that is told behind an explanation, where no event of the session's history has the key that is asked about; else nothing.
+pub fn line_behind(
+    alloc: Global,
+    names: &Names,
+    session: &Session,
+    key: Option<Item>,
+) -> Result<Vec<u8>, OutOfMemory>
+    ensures { IfOk result (λ line. IsToldBehind names.now session.now.present.history key line.items) }
+{
+    let Some(key) = key else {
+        return Ok(Vec::new(alloc));
+    };
+    let keys = session.objects(alloc, names)?;
+    Ok(line_for(alloc, names, key, &keys)?)
 }
 
 /// What is told where no event has the key that is asked about; none where one has it, and where none is asked about.

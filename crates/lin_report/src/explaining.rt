@@ -1,5 +1,5 @@
 //! Why the answer is what it is.
-ghost use Rattle.std.specs.Prelude.{◌≡◌, ◌<◌, ◌≤◌, ◌+◌, ◌*◌, None, Some, length, option_map, IfOk, OnOk, IsErrOf};
+ghost use Rattle.std.specs.Prelude.{◌≡◌, ◌<◌, ◌≤◌, ◌+◌, ◌*◌, ◌++◌, None, Some, codes, decimal, length, option_map, IfOk, OnOk, IsErrOf};
 ghost use Rattle.lin_events.specs.Meters.{ticked};
 ghost use Rattle.lin_formats.specs.Devices.{device_of, failures_of, Counts};
 ghost use Rattle.lin_formats.specs.Histories.{is_read_failed};
@@ -7,7 +7,7 @@ ghost use Rattle.lin_formats.specs.Inputs.{limit};
 ghost use Rattle.lin_formats.specs.Verdicts.{is_write_failed, IsReadTooFar};
 ghost use Rattle.lin_report.specs.AskedKeys.{HasEvents, IsKey};
 ghost use Rattle.lin_report.specs.inner.Asking.{IsFound};
-ghost use Rattle.lin_report.specs.Explanations.{IsExplainRun, IsExplanation, IsExplanationWhere, explanation_text, key_of as key_in, line_count as lines_in, refusal_lines as lines_for, refused_told};
+ghost use Rattle.lin_report.specs.Explanations.{IsExplainRun, IsExplanation, IsRightExplanation, explanation_text, key_of as key_in, line_count as lines_in, refusal_lines as lines_for, refused_told};
 ghost use Rattle.lin_explain.specs.Explained.{Explains, scope_of as scope_for};
 ghost use Rattle.lin_explain.specs.Work.{least_steps, most_passes};
 ghost use Rattle.lin_names.specs.Names.{Begins};
@@ -18,7 +18,7 @@ ghost use Rattle.lin_report.specs.Runs.{IsCommandReply};
 ghost use Rattle.lin_report.specs.declared.commands.Command.TheVariants as command;
 
 use crate::answers::{status_of, verdict_of};
-use crate::asked_keys::{Found, RunEnding, absence_of};
+use crate::asked_keys::{Found, RunEnding, absence_of, line_behind};
 use crate::beside::{Beside, beside_of, whole_words};
 use crate::checks::Answered;
 use crate::each::told_for;
@@ -195,7 +195,18 @@ fn line_count(text: &[u8]) -> usize
     count
 }
 
-/// The reply to a command that asks why: how many lines follow, and they. At most thirteen steps are counted for each event of the history, beside
+/// These lines behind one that tells how many they are.
+fn counted_lines(alloc: Global, lines: &[u8]) -> Result<Vec<u8>, AllocError>
+    ensures { IfOk result (λ text. text.items ≡ codes "explained " ++ decimal (lines_in lines.now) ++ codes "\n" ++ lines.now) }
+{
+    let mut text = Vec::from_slice(alloc, b"explained ")?;
+    put_number(&mut text, line_count(lines) as u64)?;
+    text.push(b'\n')?;
+    text.extend_from_slice(lines)?;
+    Ok(text)
+}
+
+/// The reply to a command that asks why: how many lines follow, and they, and for a key that no event has one more that says so. At most thirteen steps are counted for each event of the history, beside
 /// those of the question: ten for a yes, seven for a no, six for what is undecided, and seven for an object that is a no beside that.
 pub fn explain_reply(
     alloc: Global,
@@ -221,12 +232,11 @@ pub fn explain_reply(
         asked,
         None,
     )?;
-    let mut text = Vec::from_slice(alloc, b"explained ")?;
-    put_number(&mut text, line_count(answered.text.as_slice()) as u64)?;
-    text.push(b'\n')?;
-    text.extend_from_slice(answered.text.as_slice())?;
+    let mut lines = answered.text;
+    let line = line_behind(alloc, names, session, asked.key)?;
+    lines.extend_from_slice(line.as_slice())?;
     Ok(WrittenReply {
-        text,
+        text: counted_lines(alloc, &lines)?,
         status: Some(answered.status),
     })
 }
@@ -323,7 +333,7 @@ fn find<R: Read>(
 ) -> Result<Found, RunFault>
     requires budget { (1 ≤ settings.budget) × (settings.budget ≤ 1000000) }
     requires reads { failures_of file.old < u64.MAX }
-    ensures found { IfOk result (IsFound (IsExplanationWhere HasEvents settings question.entry) settings question.entry.key (R.remaining (device_of file.old)) (R.remaining (device_of file.new))) }
+    ensures found { IfOk result (IsFound (IsRightExplanation settings question.entry) settings question.entry.key (R.remaining (device_of file.old)) (R.remaining (device_of file.new))) }
     ensures too_much { IsErrOf result RunFault.TooMuch → IsReadTooFar (R.remaining (device_of file.old)) (R.remaining (device_of file.new)) }
     ensures counts { Counts (is_read_failed result) (failures_of file.old) (failures_of file.new) }
     ensures readers { IsErrOf result RunFault.WriteFailed → ⊥ }
@@ -363,7 +373,7 @@ fn find<R: Read>(
 /// whole history has the key nothing is written, and it is told which keys there are.
 ///
 /// The file is read as by `check`, which see for what is asked and for errors.
-pub fn explain_or_refuse<R: Read, W: Write>(
+pub fn explain<R: Read, W: Write>(
     alloc: Global,
     settings: Settings,
     question: Question,

@@ -2,7 +2,6 @@
 #![tactic(auto)]
 
 mod answers;
-mod any_keys;
 mod asked_keys;
 mod beside;
 mod checks;
@@ -27,12 +26,11 @@ mod sessions;
 mod working;
 
 pub use answers::write_answer;
-pub use any_keys::explain;
 pub use asked_keys::RunEnding;
 pub use checks::check;
 pub use commands::{Command, CommandFault, commands_are_unique, read_command};
 pub use drawing::draw;
-pub use explaining::{Question, explain_or_refuse};
+pub use explaining::{Question, explain};
 pub use formats::ReportFormat;
 pub use laws::answers_agree;
 pub use lin_formats::{

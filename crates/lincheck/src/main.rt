@@ -31,6 +31,10 @@ impl<'a> System for Host<'a> {
 
     fn open(&self, path: &str) -> Option<Watched<'a, File>> {
         let file = File::open(self.runtime, path).ok()?;
+        // (it can be opened, and no read of it succeeds)
+        if file.metadata().is_ok_and(|it| it.is_dir()) {
+            let _told = eprintln!(self.runtime; "lincheck: {path}: it is a directory");
+        }
         Some(Watched::new(self.progress, path, file))
     }
 

@@ -1,8 +1,9 @@
-//! How far the reading of a file is, told on a terminal.
+//! How far the reading of a file is, told on a terminal, and that a file became shorter than what was read of it.
 ghost use Rattle.std.specs.Io.{ReadsAtMost, WritesAtMost};
 ghost use Rattle.std.specs.Io.KnownBytes.{Keeps, ReadConsumes, WriteAppends};
 
 use std::cell::Cell;
+use std::fs::File;
 use std::io;
 use std::io::{IsTerminal, Read, Write};
 use std::time::Instant;
@@ -83,11 +84,61 @@ impl<'a> Watch<'a> {
     }
 }
 
+/// How much of a file of this name is read.
+#[derive(Drop)]
+struct Extent<'a> {
+    progress: &'a ProgressLine<'a>,
+    name: String,
+    bytes: u64,
+    // Whether it was told that the file is shorter.
+    is_cut: bool,
+}
+
+impl<'a> Extent<'a> {
+    /// Counts bytes that were read.
+    fn add(&mut self, count: usize) {
+        self.bytes = self.bytes.saturating_add(count as u64);
+    }
+
+    /// Tells once that the file, which gives no more bytes and is so long, is shorter than what was read of it, if it is.
+    fn tell_if_cut(&mut self, length: Option<u64>) {
+        match length {
+            Some(length) if length < self.bytes && !self.is_cut => {}
+            _ => return,
+        }
+        self.is_cut = true;
+        self.progress.wipe();
+        let name = self.name.as_str();
+        let _is_told = eprintln!(self.progress.runtime;
+            "lincheck: {name}: it is shorter than what was read of it"
+        );
+    }
+}
+
+/// What tells how long it is.
+pub trait HasLength {
+    /// How many bytes it has, if it is a plain file.
+    fn length(&self) -> Option<u64>;
+}
+
+impl HasLength for File {
+    fn length(&self) -> Option<u64> {
+        let found = self.metadata().ok()?;
+        if found.is_file() {
+            Some(found.len())
+        } else {
+            None
+        }
+    }
+}
+
 /// A file, and on a terminal how far its reading is, once that takes more than a second.
 #[derive(Drop)]
 pub struct Watched<'a, F> {
     file: F,
     watch: Option<Watch<'a>>,
+    // None where there was no memory for the name.
+    extent: Option<Extent<'a>>,
 }
 
 impl<'a, F> Watched<'a, F> {
@@ -98,8 +149,23 @@ impl<'a, F> Watched<'a, F> {
         } else {
             None
         };
-        Watched { file, watch }
+        let extent = extent_of(progress, name);
+        Watched {
+            file,
+            watch,
+            extent,
+        }
     }
+}
+
+/// What is read of the file of this name, before anything is.
+fn extent_of<'a>(progress: &'a ProgressLine<'a>, name: &str) -> Option<Extent<'a>> {
+    Some(Extent {
+        progress,
+        name: String::from_str(progress.runtime.alloc(), name).ok()?,
+        bytes: 0,
+        is_cut: false,
+    })
 }
 
 /// The watch of a reading that isn't begun, of the file of this name.
@@ -114,7 +180,7 @@ fn watch_of<'a>(progress: &'a ProgressLine<'a>, name: &str) -> Option<Watch<'a>>
     })
 }
 
-impl<'a, F: Read> Read for Watched<'a, F> {
+impl<'a, F: Read + HasLength> Read for Watched<'a, F> {
     ghost remaining = { λ w. F.remaining (w.file) };
 
     fn read(&mut self, buf: &mut [u8]) -> io::Result<usize>
@@ -126,6 +192,12 @@ impl<'a, F: Read> Read for Watched<'a, F> {
             match &outcome {
                 Ok(count) if *count > 0 => watch.advance(*count),
                 _ => watch.end(),
+            }
+        }
+        if let (Ok(count), Some(extent)) = (&outcome, &mut self.extent) {
+            match *count {
+                0 => extent.tell_if_cut(self.file.length()),
+                count => extent.add(count),
             }
         }
         outcome

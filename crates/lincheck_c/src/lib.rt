@@ -2,7 +2,7 @@
 #![tactic(auto)]
 
 ghost use Rattle.std.specs.Prelude.{◌≡◌, None};
-ghost use Rattle.lin_embedded.specs.Calls.{Ends, IsExplanationOf, IsReportOf};
+ghost use Rattle.lin_embedded.specs.Calls.{Ends, EndsExplained, IsAbsent, IsExplanationOf, IsReportOf};
 ghost use Rattle.lin_embedded.specs.Options.{AreOptions, NamesNone};
 ghost use Rattle.lin_embedded.specs.Sessions.{AsksAs, Begins, Calls, FeedsAs, Numbered, OrdersAs};
 
@@ -23,7 +23,8 @@ pub extern "C" fn lincheck_check(
     lin_embedded::check(alloc, *options, history, room, needed).number()
 }
 
-/// Tells why that is so, for the object of the key that a text names, or for the whole where that text is empty.
+/// Tells why that is so, for the object of the key that a text names, or for the whole where that text is empty. Nothing is told where no event of a whole
+/// history has the key.
 #[unsafe(no_mangle)]
 pub extern "C" fn lincheck_explain(
     alloc: Global,
@@ -33,7 +34,7 @@ pub extern "C" fn lincheck_explain(
     room: &mut [u8],
     needed: &mut usize,
 ) -> u32
-    ensures { Ends (IsExplanationOf options.now key.now history.now) (AreOptions options.now × (NamesNone key.now → ⊥)) room.old room.new needed.old needed.new result }
+    ensures { EndsExplained (IsExplanationOf options.now key.now history.now) (IsAbsent options.now key.now history.now) (AreOptions options.now × (NamesNone key.now → ⊥)) room.old room.new needed.old needed.new result }
 {
     lin_embedded::explain(alloc, *options, history, key, room, needed).number()
 }
