@@ -261,9 +261,9 @@ def test_c(program, library, folder, some):
         for history in some:
             for name in ('check', 'explain'):
                 status, text = told(program, name, options, history, key)
-                if (status, text) == NO_KEY:
-                    status, text = library.call('lincheck_explain', options, history, key)
-                wanted += b'%s: status %d, needed %d\n%s' % (name.encode(), status, len(text), text)
+                # (where no event has the key, what tests/library.c put there stays)
+                needed = 12345 if status == BAD_OPTIONS else len(text)
+                wanted += b'%s: status %d, needed %d\n%s' % (name.encode(), status, needed, text)
             with tempfile.NamedTemporaryFile() as file:
                 edit = Edit(program, options, file)
                 wanted += b'session: fed %d, events %d, status %d, at %d\n%s\n' % (*edit.feed(history), *edit.ask(), edit.order()[1])
