@@ -15,7 +15,7 @@
  *
  * That the text is a right report or explanation of the very bytes that were passed, with that number, is proved of the first two functions for
  * all bytes, options, keys and rooms; and of a session, for any calls in any order, that it answers for just the bytes that it was fed
- * (crates/lincheck_c, crates/lin_embedded and crates/lin_embedded). This header is trusted, as nothing compares it with them; and the caller is
+ * (crates/lincheck_c and crates/lin_embedded). This header is trusted, as nothing compares it with them; and the caller is
  * trusted with what follows.
  *
  * Ownership: all memory that is passed is the caller's, and is read or written during the call alone. But for what a session holds, a call frees
