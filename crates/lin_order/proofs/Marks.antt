@@ -55,6 +55,14 @@ module _ (order : List Placed) (i : ℕ) (p : Placed) (inside : i < length order
       let before = so_far.sound p.at marked in
       not_pairs order i p inside is (λ q r. q.at ≢ r.at) (record { at = p.at; reply = before.0 }) before.1 (λ differ. differ refl) once
 
+  -- so where the order names no position twice, this one is not marked
+  pub unmarked_here : NamesOnce order → get_or marks p.at false ≡ false
+  unmarked_here once = by (get_or marks p.at false) refl
+    where
+      by : (b : Bool) → get_or marks p.at false ≡ b → get_or marks p.at false ≡ false
+      by true marked = absurd (named_again marked once)
+      by false unmarked = unmarked
+
   pub marked_more : (now : List Bool) → p.at < length marks → now ≡ set marks p.at true → IsMarked (take (i + 1) order) now
   marked_more now within made =
       subst (λ l. IsMarked l now) (sym (take_more order i p inside is)) (subst (IsMarked (take i order ++ p ∷ [])) (sym made) (marked_push (take i order) marks p within so_far))

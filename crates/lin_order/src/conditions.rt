@@ -1,46 +1,14 @@
-//! The conditions on an order, one function each.
-ghost use Rattle.std.specs.Prelude.{◌≡◌, ◌<◌, ◌≤◌, ◌↔◌, ◌+◌, ℕ, length, true, IsTrue, IfOk, All, MatchOption};
+//! The conditions on an order that need no state of an object.
+ghost use Rattle.std.specs.Prelude.{◌≡◌, ◌<◌, ◌↔◌, ℕ, length, true, false, slice_index_or, IsTrue};
 ghost use Rattle.lin_events.specs.declared.calls.Call.{Call as CallOf};
 ghost use Rattle.lin_events.specs.declared.calls.Reply.{Reply as ReplyOf};
 ghost use Rattle.lin_events.specs.Operations.{IsOk};
-ghost use Rattle.lin_order.specs.Orders.{IsBefore, IsCall};
-ghost use Rattle.lin_order.specs.Tables.{IsNextTable, IsMarked, KeepsOutcome, KeepsRealTime, MarksEachOk, NamesOnce, NamesOperations};
+ghost use Rattle.lin_order.specs.Orders.{IsBefore};
+ghost use Rattle.lin_order.specs.Tables.{IsNextTable, KeepsOutcome, MarksEachOk};
 
-use crate::operations::{call_at, is_failed, ok_end};
+use crate::operations::{is_failed, ok_end};
 use crate::placed::Placed;
-use lin_events::{Event, OutOfMemory};
-use std::alloc::Global;
-
-/// Whether the order names operations alone.
-pub fn names_operations(events: &[Event], order: &[Placed]) -> bool
-    ensures { IsTrue result ↔ NamesOperations events.now order.now }
-{
-    for placed in order {
-        if call_at(events, placed.at).is_none() {
-            return false;
-        }
-    }
-    true
-}
-
-/// A mark at each position below `len` that the order names, or nothing where it names one twice.
-pub fn marks_of(
-    alloc: Global,
-    len: usize,
-    order: &[Placed],
-) -> Result<Option<Vec<bool>>, OutOfMemory>
-    requires { All (λ p. p.at < len) order.now }
-    ensures { IfOk result (λ found. MatchOption found (NamesOnce order.now → ⊥) (λ marks. NamesOnce order.now × IsMarked order.now marks.items × (length marks.items ≡ len))) }
-{
-    let mut marks = vec![in alloc; false; len]?;
-    for placed in order {
-        if marks[placed.at] {
-            return Ok(None);
-        }
-        marks[placed.at] = true;
-    }
-    Ok(Some(marks))
-}
+use lin_events::Event;
 
 /// Whether the operation did not fail and, where it is ok, has its recorded reply.
 fn keeps_outcome(events: &[Event], ends: &[Option<usize>], placed: &Placed) -> bool
@@ -57,28 +25,17 @@ fn keeps_outcome(events: &[Event], ends: &[Option<usize>], placed: &Placed) -> b
     }
 }
 
-/// Whether no operation of the order failed and each ok one has its recorded reply.
-pub fn keeps_outcomes(events: &[Event], ends: &[Option<usize>], order: &[Placed]) -> bool
-    requires table { IsNextTable events.now ends.now }
-    requires within { All (λ p. p.at < length events.now) order.now }
-    ensures { IsTrue result ↔ All (KeepsOutcome events.now) order.now }
-{
-    for placed in order {
-        if !keeps_outcome(events, ends, placed) {
-            return false;
-        }
-    }
-    true
-}
-
 /// Whether the operation is marked if it is ok.
 fn is_kept(events: &[Event], ends: &[Option<usize>], at: usize, marked: bool) -> bool
     requires table { IsNextTable events.now ends.now }
     requires within { at < length events.now }
     ensures { IsTrue result ↔ ((end : ℕ) (reply : ReplyOf) → IsOk events.now at end reply → marked ≡ true) }
 {
+    if marked {
+        return true;
+    }
     match ok_end(events, ends, at) {
-        Some(_) => marked,
+        Some(_) => false,
         None => true,
     }
 }
@@ -109,20 +66,23 @@ fn is_before(events: &[Event], ends: &[Option<usize>], earlier: usize, later: us
     }
 }
 
-/// Whether no later operation of the order is before an earlier one in real time.
+/// Whether the operation may stand next in an order whose operations so far are marked, with none of them at a later position than `latest`.
 ///
-/// An operation is before some earlier one exactly when it is before the latest of them.
-pub fn keeps_real_time(events: &[Event], ends: &[Option<usize>], order: &[Placed]) -> bool
+/// It may where it isn't marked, keeps its outcome, and was not known to be ok ahead of the latest of them, and so of any of them.
+pub fn fits_next(
+    events: &[Event],
+    ends: &[Option<usize>],
+    marks: &[bool],
+    latest: usize,
+    placed: &Placed,
+) -> bool
     requires table { IsNextTable events.now ends.now }
-    requires within { All (λ p. p.at < length events.now) order.now }
-    ensures { IsTrue result ↔ KeepsRealTime events.now order.now }
+    requires each { length marks.now ≡ length events.now }
+    ensures { IsTrue result ↔ ((placed.now.at < length events.now) × (slice_index_or marks.now placed.now.at false ≡ false)
+        × KeepsOutcome events.now placed.now × (IsBefore events.now placed.now.at latest → ⊥)) }
 {
-    let mut latest = 0;
-    for placed in order {
-        if is_before(events, ends, placed.at, latest) {
-            return false;
-        }
-        latest = latest.max(placed.at);
+    if placed.at >= marks.len() || marks[placed.at] {
+        return false;
     }
-    true
+    keeps_outcome(events, ends, placed) && !is_before(events, ends, placed.at, latest)
 }

@@ -1,14 +1,15 @@
-//! Whether an order is legal: whether each object runs through its part of it.
-ghost use Rattle.std.specs.Prelude.{◌≡◌, ◌↔◌, false, IsTrue, IfOk, MatchBool};
+//! What is told of an order by going through it once: that each object runs through its part of it, and the conditions on each operation.
+ghost use Rattle.std.specs.Prelude.{◌≡◌, length, false, All, IfOk, MatchBool, MatchOption};
 ghost use Rattle.std.specs.HashMap.{get};
 ghost use Rattle.lin_events.specs.declared.items.Item.{Item as ItemOf};
 ghost use Rattle.lin_events.specs.Items.{item_eq};
 ghost use Rattle.lin_objects.specs.Kinds.{kind_of};
 ghost use Rattle.lin_objects.specs.Steps.{Step};
 ghost use Rattle.lin_order.specs.Linearizable.{IsLegal};
-ghost use Rattle.lin_order.specs.Tables.{NamesOperations, state_of};
+ghost use Rattle.lin_order.specs.Tables.{IsMarked, IsNextTable, KeepsOutcome, KeepsRealTime, NamesOnce, NamesOperations, state_of};
 ghost use Rattle.lin_order.specs.inner.Tables.{IsFound, IsRefused, IsTaken};
 
+use crate::conditions::fits_next;
 use crate::placed::Placed;
 use lin_events::{Body, Call, Event, Item, OutOfMemory, Reply};
 use lin_objects::{Any, Kinds, SeqObject, State, replies_decide};
@@ -64,24 +65,37 @@ fn take_step(
     }
 }
 
-/// Whether each object runs through its part of the order.
-pub fn is_legal(
+/// Marks at the operations of the order, if it keeps all that can be told of it by going through it once, or nothing where it doesn't.
+///
+/// It keeps this where it names operations alone, none of them twice, none that failed and none before an earlier one in real time, each ok
+/// one of them has its recorded reply, and each object runs through its part of it. An operation is before some earlier one exactly when it
+/// is before the latest of them.
+pub fn marks_of(
     alloc: Global,
     events: &[Event],
+    ends: &[Option<usize>],
     kinds: &Kinds,
     order: &[Placed],
-) -> Result<bool, OutOfMemory>
-    requires { NamesOperations events.now order.now }
-    ensures { IfOk result (λ legal. IsTrue legal ↔ IsLegal (kind_of kinds.now) events.now order.now) }
+) -> Result<Option<Vec<bool>>, OutOfMemory>
+    requires table { IsNextTable events.now ends.now }
+    ensures { let fits = NamesOperations events.now order.now × NamesOnce order.now × All (KeepsOutcome events.now) order.now
+        × KeepsRealTime events.now order.now × IsLegal (kind_of kinds.now) events.now order.now in
+        IfOk result (λ found. MatchOption found (fits → ⊥) (λ marks. fits × IsMarked order.now marks.items × (length marks.items ≡ length events.now))) }
 {
     replies_decide();
+    let mut marks = vec![in alloc; false; events.len()]?;
     let mut states = HashMap::new(alloc);
+    let mut latest = 0;
     for placed in order {
-        let event = &events[placed.at];
-        let taken = take_step(alloc, kinds, event, &placed.reply, &mut states)?;
+        if !fits_next(events, ends, &marks, latest, placed) {
+            return Ok(None);
+        }
+        marks[placed.at] = true;
+        latest = latest.max(placed.at);
+        let taken = take_step(alloc, kinds, &events[placed.at], &placed.reply, &mut states)?;
         if !taken {
-            return Ok(false);
+            return Ok(None);
         }
     }
-    Ok(true)
+    Ok(Some(marks))
 }

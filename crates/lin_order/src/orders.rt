@@ -1,38 +1,15 @@
 //! Orders of a history.
 ghost use Rattle.std.specs.Prelude.{◌↔◌, IsTrue, IfOk};
 ghost use Rattle.lin_objects.specs.Kinds.{kind_of};
-ghost use Rattle.lin_order.specs.Orders.{IsOrder};
 ghost use Rattle.lin_order.specs.Linearizable.{IsLegalOrder};
 
-use crate::conditions::{
-    keeps_outcomes, keeps_real_time, marks_each_ok, marks_of, names_operations,
-};
-use crate::legality::is_legal;
+use crate::conditions::marks_each_ok;
+use crate::legality::marks_of;
 use crate::operations::ends_of;
 use crate::placed::Placed;
 use lin_events::{Event, OutOfMemory};
 use lin_objects::Kinds;
 use std::alloc::Global;
-
-/// Whether the list is an order of the history.
-fn is_order(alloc: Global, events: &[Event], order: &[Placed]) -> Result<bool, OutOfMemory>
-    ensures { IfOk result (λ is. IsTrue is ↔ IsOrder events.now order.now) }
-{
-    if !names_operations(events, order) {
-        return Ok(false);
-    }
-    let Some(marks) = marks_of(alloc, events.len(), order)? else {
-        return Ok(false);
-    };
-    let ends = ends_of(alloc, events)?;
-    if !keeps_outcomes(events, &ends, order) {
-        return Ok(false);
-    }
-    if !marks_each_ok(events, &ends, &marks) {
-        return Ok(false);
-    }
-    Ok(keeps_real_time(events, &ends, order))
-}
 
 /// Whether the list is a legal order of the history (Herlihy and Wing 1990, sections 2 and 3).
 ///
@@ -51,9 +28,9 @@ pub fn check_order(
 ) -> Result<bool, OutOfMemory>
     ensures { IfOk result (λ legal. IsTrue legal ↔ IsLegalOrder (kind_of kinds.now) events.now order.now) }
 {
-    let ordered = is_order(alloc, events, order)?;
-    if !ordered {
+    let ends = ends_of(alloc, events)?;
+    let Some(marks) = marks_of(alloc, events, &ends, kinds, order)? else {
         return Ok(false);
-    }
-    is_legal(alloc, events, kinds, order)
+    };
+    Ok(marks_each_ok(events, &ends, &marks))
 }
