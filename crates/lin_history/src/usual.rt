@@ -157,6 +157,39 @@ fn word_until(text: &[u8], at: usize, end: usize) -> usize
     run_until(text, at, end)
 }
 
+/// Where the vector of two runs at a place ends; that place where none stands there with white between the two alone. A recorder writes a
+/// key and its value so, which needs no look at what else can be nested.
+#[inline(never)]
+fn pair_until(text: &[u8], at: usize, end: usize) -> usize
+    requires begun { at ≤ end }
+    requires inside { end ≤ length text.now }
+    ensures within { (at ≤ result) × (result ≤ end) }
+    ensures value { at < result → (n : ℕ) → (v : Value) × Element (suc n) at (drop at text.now) v result (drop result text.now) }
+{
+    if at == end {
+        return at;
+    }
+    if text[at] != b'[' {
+        return at;
+    }
+    let first = word_until(text, at + 1, end);
+    if first == at + 1 {
+        return at;
+    }
+    let white = white_until(text, first, end);
+    let second = word_until(text, white, end);
+    if second == white {
+        return at;
+    }
+    if second == end {
+        return at;
+    }
+    if text[second] != b']' {
+        return at;
+    }
+    second + 1
+}
+
 /// The usual value at a place, with so many levels at most, and where it ends; that place where none stands there.
 #[inline(always)]
 pub(crate) fn usual_value(text: &[u8], at: usize, end: usize, levels: usize) -> (Extent, usize)
@@ -170,6 +203,12 @@ pub(crate) fn usual_value(text: &[u8], at: usize, end: usize, levels: usize) -> 
     let place = Extent { at, until };
     if until > at {
         return (place, until);
+    }
+    if levels > 0 {
+        let pair = pair_until(text, at, end);
+        if pair > at {
+            return (place, pair);
+        }
     }
     (place, nested_until(text, at, end, levels))
 }
