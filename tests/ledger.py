@@ -19,6 +19,10 @@ import trials
 
 PROVER = 'kit 1', 'sum 1'
 LOW = '''//! What stands below.
+mod parts;
+
+pub use parts::{half};
+
 pub const MOST: usize = 10;
 
 pub struct Pair {
@@ -73,6 +77,34 @@ fn around() {
     }
 }
 '''
+PARTS = '''ghost use Rattle.std.specs.Prelude.{◌≤◌, ℕ};
+ghost use Rattle.low.specs.Third.{Third};
+
+use crate::halves::Half;
+
+/// A half of it.
+pub fn half(whole: Half) -> u64
+    ensures { result ≤ 1 }
+{
+    third(whole)
+}
+
+/// A third of it.
+#[inline]
+pub fn third(whole: Half) -> u64
+    ensures { Third result × (result ≤ 3) }
+{
+    0
+}
+
+impl Half {
+    fn fourth(&self) -> u64
+        ensures { result ≤ 5 }
+    {
+        0
+    }
+}
+'''
 FILES = {
     'crates.txt': '# lowest first\nlin_lists:\nlow: lin_lists arrayvec\ntop: low\nother: lin_lists\n',
     'tests/refused.txt': '# by must_fail.py\n',
@@ -80,6 +112,7 @@ FILES = {
     'crates/lin_lists/specs/Lists.antt': 'first = 1\n',
     'crates/lin_lists/proofs/Plain.antt': 'plain = 1\n',
     'crates/low/src/lib.rt': LOW,
+    'crates/low/src/parts.rt': PARTS,
     'crates/low/src/names.rt': 'pub const NAMES: &str = "\n// 1\n";\n',
     'crates/low/specs/Lesser.antt': 'lesser = 1\n',
     'crates/low/specs/lemmas/Least.antt': 'least = 1\n',
@@ -116,7 +149,15 @@ CHANGES = [
     ('a function below with a type of its body', 'crates/low/src/lib.rt', '90', '91', BOTH),
     ('a function of a trait below', 'crates/low/src/lib.rt', ' 100', ' 101', BOTH),
     ('an impl in a body below', 'crates/low/src/lib.rt', ' 110', ' 111', BOTH),
-    ('the name of a function below', 'crates/low/src/lib.rt', 'fn nothing', 'fn nobody', BOTH),
+    ('the name of a function below', 'crates/low/src/lib.rt', 'fn lesser', 'fn least', BOTH),
+    ('the name of a function below in a file with a macro', 'crates/low/src/lib.rt', 'fn nothing', 'fn nobody', BOTH),
+    ('the name of one in another file that is not handed on', 'crates/low/src/parts.rt', 'fn third', 'fn fifth', {BELOW}),
+    ('a contract of one in another file that is handed on', 'crates/low/src/parts.rt', 'result ≤ 1', 'result ≤ 2', BOTH),
+    ('an import of that', 'crates/low/src/parts.rt', 'Prelude.{◌≤◌', 'Other.{◌≤◌', BOTH),
+    ('a type in its head', 'crates/low/src/parts.rt', 'halves::Half', 'thirds::Half', BOTH),
+    ('a contract of one there that is not', 'crates/low/src/parts.rt', 'result ≤ 3', 'result ≤ 4', {BELOW}),
+    ('an import of that alone', 'crates/low/src/parts.rt', 'specs.Third.', 'specs.Fourth.', {BELOW}),
+    ('a method there', 'crates/low/src/parts.rt', 'result ≤ 5', 'result ≤ 6', BOTH),
     ('a plain body below', 'crates/low/src/lib.rt', 'if a < b { a } else { b }', 'let c = b;\n    if a < c { a } else { c }', {BELOW}),
     ('the body of a method below', 'crates/low/src/lib.rt', '        self.left\n', '        self.left + 0\n', {BELOW}),
     ('an empty body below', 'crates/low/src/lib.rt', 'fn nothing() {}', 'fn nothing() {\n    lesser(1, 2);\n}', {BELOW}),

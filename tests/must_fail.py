@@ -64,8 +64,9 @@ class Keys:
     """The keys of a repository's edits: a sum of all that an edit's check reads, by the texts alone.
 
     It reads the edit, its crate, the prover, and of each crate below, through all levels, the line of crates.txt, specs/ and what src/ is
-    without the bodies of plain functions, by whose contracts callers are judged. tests/imports.py keeps proofs/ from the crates above, but
-    those of ROOMS. tests/trials.py makes the checks and judges them.
+    without the bodies of plain functions, by whose contracts callers are judged, and without plain functions that lib.rt doesn't hand on,
+    which nothing above can call. tests/imports.py keeps proofs/ from the crates above, but those of ROOMS. tests/trials.py makes the checks
+    and judges them.
     """
 
     def __init__(self, root, prover):
@@ -97,7 +98,9 @@ class Keys:
 
     @functools.lru_cache(None)
     def from_above(self, crate):
-        source = [(path, trials.without_bodies(it.decode()) if path.endswith('.rt') else it) for path, it in self.texts(crate, 'src')]
+        files = self.texts(crate, 'src')
+        handed = handed_on(dict(files).get('src/lib.rt', b'').decode())
+        source = [(path, seen_above(path, it.decode(), handed) if path.endswith('.rt') else it) for path, it in files]
         return sum_of(self.lines[crate], source, self.texts(crate, 'specs'), self.texts(crate, 'proofs') if crate in imports.ROOMS else [])
 
     @functools.lru_cache(None)
@@ -109,6 +112,42 @@ class Keys:
         edit = self.read(file) if os.path.isfile(file) else b''
         below = [(it, self.from_above(it)) for it in sorted(self.below(crate))]
         return sum_of(self.of_all, edit, self.own(crate), below)[:20]
+
+
+def handed_on(text):
+    """The names that a lib.rt hands on; None where it may hand on what it doesn't name."""
+    uses = re.findall(r'^pub use ([^;]*);', text, re.M)
+    if re.search(r'^ *pub(?:\([\w: ]+\))? mod\b|macro_export', text, re.M) or any('*' in it for it in uses):
+        return None
+    return {name for it in uses for name in re.findall(r'\w+', it)}
+
+
+def seen_above(path, text, handed):
+    """What crates above read of a file: it without bodies, and without free functions that aren't handed on, and what these alone import."""
+    if handed is None or 'macro_rules!' in text:
+        return trials.without_bodies(text)
+    for it in reversed(trials.functions_of(text, '')):
+        is_hidden = it.name not in handed and not (path == 'src/lib.rt' and it.text.startswith('pub '))
+        if is_hidden and it.owner is None and not it.module and not trials.is_read_above(it):
+            above = re.search(r'(?:^ *(?:#\[|//).*\n)*\Z', text[:it.start], re.M)
+            text = text[:above.start()] + text[it.end:]
+    text = trials.without_bodies(text)
+    rest = re.sub(IMPORT, '', text)
+    return re.sub(IMPORT, lambda it: used_imports(it, rest), text)
+
+
+IMPORT = re.compile(r'^(?:ghost )?use ([\w.:]*?)(?:\{([^{}]*)\}|(\w+));\n', re.M)
+
+
+def used_imports(found, rest):
+    """An import, without the names that stand nowhere in the rest of a file."""
+    names = [' '.join(it.split()) for it in (found[2] or found[3] or '').split(',')]
+    used = [it for it in names if it and is_in(it.split(' ')[-1], rest)]
+    return 'use %s %s\n' % (found[1], ', '.join(sorted(used))) if used else ''
+
+
+def is_in(name, text):
+    return bool(re.search(r'(?<!\w)%s(?!\w)' % re.escape(name), text)) if name.isidentifier() else name.strip('◌') in text
 
 
 def read_ledger(root):
