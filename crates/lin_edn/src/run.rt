@@ -53,20 +53,23 @@ fn is_keyword(text: &[u8]) -> bool
 pub fn integer(text: &[u8]) -> Option<i64>
     ensures { result ≡ run.integer text.now }
 {
-    // Most have one digit.
-    match digit_in(text) {
-        Some(digit) => Some(digit as i64),
+    // Most have one digit or two.
+    match digits_in(text) {
+        Some(number) => Some(number as i64),
         None => long_integer(text),
     }
 }
 
-/// The number that a run of one digit spells.
+/// The number that a run of one digit or two spells.
 #[inline(always)]
-fn digit_in(text: &[u8]) -> Option<u8>
-    ensures { IfSome result (λ digit. Some (pos digit) ≡ run.integer text.now) }
+fn digits_in(text: &[u8]) -> Option<u8>
+    ensures { IfSome result (λ number. Some (pos number) ≡ run.integer text.now) }
 {
     match text {
         [byte] if byte.is_ascii_digit() => Some(*byte - b'0'),
+        [ten, one] if *ten != b'0' && ten.is_ascii_digit() && one.is_ascii_digit() => {
+            Some((*ten - b'0') * 10 + (*one - b'0'))
+        }
         _ => None,
     }
 }
