@@ -7,11 +7,11 @@
 //! last, or right before a write, which overwrites it. Of configurations for which another one serves none is kept.
 ghost use Rattle.std.specs.Prelude.{◌≡◌, ◌<◌, ◌≤◌};
 
-use crate::drafts::{DraftSpot, DraftStep};
-use crate::lines::LinkedLine;
+use crate::deeds::{Configuration, Deed, NO_GAP, OpenDeed, WhichGap, WriteGap, code_of};
+use crate::placings::{END, Placings};
 use crate::returns::{FAILED, NEVER, OPEN, bit, lowest, returns_of};
 use crate::tries::tick_tries;
-use lin_events::{Body, Call, Event, Item, Meter, OutOfMemory, Reply, Val};
+use lin_events::{Body, Call, Event, Meter, OutOfMemory, Reply, Val};
 use lin_order::Placed;
 use std::alloc::Global;
 
@@ -26,114 +26,6 @@ const WAYS: usize = 256;
 
 /// Of open updates that do the same and never return so many are kept.
 const LIKE: u32 = 3;
-
-/// Where updates can still be put in an order: right before a write.
-#[derive(Clone, Copy)]
-struct WriteGap {
-    /// What the register holds there.
-    held: u64,
-    /// Only operations that were invoked before this place. There is no gap where it is 0.
-    until: u32,
-    /// The write.
-    next: u32,
-}
-
-const NO_GAP: WriteGap = WriteGap {
-    held: 0,
-    until: 0,
-    next: 0,
-};
-
-/// A place in an order.
-#[derive(Clone, Copy, PartialEq, Eq)]
-enum WhichGap {
-    /// Behind all others.
-    Last,
-    /// In the widest gap.
-    Wide,
-    /// In the other one.
-    Narrow,
-}
-
-#[derive(Clone, Copy)]
-struct Configuration {
-    /// What the register holds behind all others.
-    held: u64,
-    /// The open operations that are placed, by their slots.
-    placed: u64,
-    /// Where any update can be put.
-    wide: WriteGap,
-    /// One more, for compare-and-sets that find there what they need.
-    narrow: WriteGap,
-    /// The last update.
-    last: u32,
-    /// Its last step, and one more; 0 where it has none.
-    step: u32,
-    /// How many updates it has that never return.
-    crashed: u32,
-}
-
-impl Configuration {
-    /// The place in it: its end is a gap where all can be put.
-    #[inline(always)]
-    fn gap(&self, spot: WhichGap) -> WriteGap {
-        match spot {
-            WhichGap::Last => WriteGap {
-                held: self.held,
-                until: u32::MAX,
-                next: 0,
-            },
-            WhichGap::Wide => self.wide,
-            WhichGap::Narrow => self.narrow,
-        }
-    }
-}
-
-/// What an operation does.
-#[derive(Clone, Copy)]
-enum Deed {
-    Read(u64),
-    Write(u64),
-    Cas(u64, u64),
-}
-
-/// An operation that is open.
-#[derive(Clone, Copy)]
-struct OpenDeed {
-    /// What it needs to find, if it isn't a write, and what it leaves, if it isn't a read.
-    found: u64,
-    left: u64,
-    /// Where it was invoked.
-    at: u32,
-    /// Where it returns; the last place where it never does.
-    end: u32,
-}
-
-/// A number for the value. Where two have one, what is found may not be legal.
-#[inline(always)]
-fn code_of(value: Val) -> u64 {
-    match value {
-        Val::Nil => 0x9e37_79b9_7f4a_7c15,
-        Val::Item(Item::Int(number)) => {
-            let twice = number.unsigned_abs().wrapping_mul(2);
-            if number < 0 {
-                twice.wrapping_add(1)
-            } else {
-                twice
-            }
-        }
-        Val::Item(Item::Bool(is)) => {
-            if is {
-                0xc2b2_ae3d_27d4_eb4f
-            } else {
-                0x1656_67b1_9e37_79f9
-            }
-        }
-        Val::Item(Item::Word(number)) => (number as u64)
-            .wrapping_mul(2)
-            .wrapping_add(0x85eb_ca77_c2b2_ae63),
-    }
-}
 
 /// The search, at some event.
 #[derive(Drop)]
@@ -152,7 +44,7 @@ struct Ahead<'a> {
     sets: u64,
     /// Those that never return.
     crashed: u64,
-    steps: Vec<DraftStep>,
+    placings: Placings,
 }
 
 impl<'a> Ahead<'a> {
@@ -161,14 +53,13 @@ impl<'a> Ahead<'a> {
         events: &'a [Event],
         returns: Vec<u32>,
     ) -> Result<Ahead<'a>, OutOfMemory> {
-        let end = (events.len() & 0xffff_ffff) as u32;
         let first = Configuration {
             held: code_of(Val::Nil),
             placed: 0,
             wide: NO_GAP,
             narrow: NO_GAP,
-            last: end,
-            step: 0,
+            last: END,
+            step: END,
             crashed: 0,
         };
         let none = OpenDeed {
@@ -190,7 +81,7 @@ impl<'a> Ahead<'a> {
             writes: 0,
             sets: 0,
             crashed: 0,
-            steps: Vec::with_capacity(alloc, events.len())?,
+            placings: Placings::new(alloc, events.len())?,
         })
     }
 
@@ -296,23 +187,13 @@ impl<'a> Ahead<'a> {
     fn read_at_once(&mut self, own: u64, found: u64, at: u32) -> Result<(), OutOfMemory> {
         for i in 0..self.count.min(WIDTH) {
             if self.kept[i].held == found {
-                let spot = DraftSpot::Behind(self.kept[i].last);
-                self.kept[i].step = self.step(self.kept[i].step, at, spot)?;
+                self.kept[i].step = self
+                    .placings
+                    .put_behind(self.kept[i].step, at, self.kept[i].last)?;
                 self.kept[i].placed |= own;
             }
         }
         Ok(())
-    }
-
-    /// Puts an operation in an order. The name of the step.
-    #[inline(always)]
-    fn step(&mut self, parent: u32, operation: u32, spot: DraftSpot) -> Result<u32, OutOfMemory> {
-        self.steps.push(DraftStep {
-            parent,
-            operation,
-            spot,
-        })?;
-        Ok((self.steps.len() & 0xffff_ffff) as u32)
     }
 
     /// Whether the update, which never returns, is needed no more: enough others do the same. Those that are placed in all configurations go.
@@ -570,6 +451,8 @@ impl<'a> Ahead<'a> {
     {
         let update = self.open[slot];
         let mut next = configuration;
+        next.step = self.placings.put_ahead(next.step, update.at, END)?;
+        next.last = next.step;
         if self.writes & bit(slot) != 0 {
             if self.sets != 0 && self.needs(&next, next.wide) {
                 next.narrow = next.wide;
@@ -579,14 +462,12 @@ impl<'a> Ahead<'a> {
             next.wide = WriteGap {
                 held: next.held,
                 until: now,
-                next: update.at,
+                next: next.last,
             };
         }
         next.held = update.left;
-        next.last = update.at;
-        next.step = self.step(next.step, update.at, DraftSpot::Last)?;
         self.note(&mut next, slot);
-        self.see(next, update.left, u32::MAX, update.at)
+        self.see(next, update.left, u32::MAX)
     }
 
     /// The configuration with the update in the gap. Ahead of a write there is a gap too.
@@ -602,7 +483,7 @@ impl<'a> Ahead<'a> {
         let update = self.open[slot];
         let old = configuration.gap(spot);
         let mut next = configuration;
-        next.step = self.step(next.step, update.at, DraftSpot::Before(old.next))?;
+        next.step = self.placings.put_ahead(next.step, update.at, old.next)?;
         self.note(&mut next, slot);
         let gap = WriteGap {
             held: update.left,
@@ -614,7 +495,7 @@ impl<'a> Ahead<'a> {
             next.wide = gap;
             self.split(&mut next, slot, old);
         }
-        self.see(next, update.left, old.until, update.at)
+        self.see(next, update.left, old.until)
     }
 
     /// Keeps the gap ahead of the write that was put in it, where a compare-and-set needs that.
@@ -628,7 +509,7 @@ impl<'a> Ahead<'a> {
             && !self.needs(configuration, configuration.narrow)
         {
             configuration.narrow = WriteGap {
-                next: self.open[slot].at,
+                next: configuration.step,
                 ..old
             };
         }
@@ -660,16 +541,17 @@ impl<'a> Ahead<'a> {
         false
     }
 
-    /// The configuration with the open reads of the value behind the update that left it, of those that were invoked before the place.
+    /// The configuration with the open reads of the value behind the update that left it, which was placed just now, of those that were
+    /// invoked before the place.
     #[inline(always)]
     fn see(
         &mut self,
         configuration: Configuration,
         value: u64,
         until: u32,
-        update: u32,
     ) -> Result<Configuration, OutOfMemory> {
         let mut next = configuration;
+        let update = next.step;
         let mut rest = self.reads & !next.placed;
         for _ in 0..OPEN {
             if rest == 0 {
@@ -680,7 +562,7 @@ impl<'a> Ahead<'a> {
             let read = self.open[slot];
             if read.found == value && read.at < until {
                 next.placed |= bit(slot);
-                next.step = self.step(next.step, read.at, DraftSpot::Behind(update))?;
+                next.step = self.placings.put_behind(next.step, read.at, update)?;
             }
         }
         Ok(next)
@@ -782,58 +664,12 @@ impl<'a> Ahead<'a> {
     }
 
     /// The order of the first configuration.
-    fn order(&self, alloc: Global) -> Result<Option<Vec<Placed>>, OutOfMemory> {
-        let mut path = Vec::with_capacity(alloc, self.events.len())?;
-        let mut at = self.kept[0].step;
-        for _ in 0..self.steps.len() {
-            let Some(step) = (at as usize).checked_sub(1).and_then(|i| self.steps.get(i)) else {
-                break;
-            };
-            path.push(at)?;
-            at = step.parent;
-        }
-        let mut line = LinkedLine::new(alloc, self.events.len())?;
-        for at in path.iter().rev() {
-            if let Some(step) = (*at as usize)
-                .checked_sub(1)
-                .and_then(|i| self.steps.get(i))
-                && line.put(step).is_none()
-            {
-                return Ok(None);
-            }
-        }
-        self.spelled(alloc, &line, path.len())
-    }
-
-    /// The operations of the line with their replies.
-    fn spelled(
-        &self,
-        alloc: Global,
-        line: &LinkedLine,
-        count: usize,
-    ) -> Result<Option<Vec<Placed>>, OutOfMemory> {
-        let mut order = Vec::with_capacity(alloc, count)?;
-        let mut at = self.events.len();
-        for _ in 0..count {
-            let Some(next) = line.after(at) else {
-                return Ok(None);
-            };
-            order.push(Placed {
-                at: next,
-                reply: self.reply(next),
-            })?;
-            at = next;
-        }
-        Ok(Some(order))
-    }
-
-    /// What the operation answered that was invoked there.
-    fn reply(&self, at: usize) -> Reply {
-        let end = self.returns.get(at).copied().unwrap_or(NEVER);
-        match self.events.get(end as usize).map(|event| &event.body) {
-            Some(Body::Ok(_, Reply::Value(value))) => Reply::Value(*value),
-            _ => Reply::Done,
-        }
+    fn order(&mut self, alloc: Global) -> Result<Option<Vec<Placed>>, OutOfMemory> {
+        let Some(count) = self.placings.line_up(self.kept[0].step) else {
+            return Ok(None);
+        };
+        self.placings
+            .spelled(alloc, count, self.events, &self.returns)
     }
 }
 
@@ -852,6 +688,9 @@ pub fn order_ahead(
     };
     let mut ahead = Ahead::new(alloc, events, returns)?;
     let found = ahead.run();
-    tick_tries(meter, ahead.steps.len());
-    if found? { ahead.order(alloc) } else { Ok(None) }
+    tick_tries(meter, ahead.placings.count());
+    if !found? {
+        return Ok(None);
+    }
+    ahead.order(alloc)
 }

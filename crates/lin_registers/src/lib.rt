@@ -25,9 +25,11 @@
 mod acts;
 mod ahead;
 mod attempts;
+mod deeds;
 mod drafts;
 mod lines;
 mod paths;
+mod placings;
 mod pool;
 mod returns;
 mod tries;
