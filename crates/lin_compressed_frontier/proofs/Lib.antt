@@ -18,3 +18,5 @@ pub mod Advancing
 pub mod ReturningAll
 pub mod Shown
 pub mod Tries
+pub mod Opened
+pub mod Single

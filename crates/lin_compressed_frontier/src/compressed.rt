@@ -1,5 +1,5 @@
 //! Compressed frontiers: few members that stand for all configurations of a history that has one object.
-ghost use Rattle.std.specs.Prelude.{◌≡◌, ◌⊎◌, ◌∷◌, ◌++◌, ◌+◌, ◌*◌, ◌<◌, ◌≤◌, [], ℕ, true, false, Bool, List, length, map, Contains, IfOk, IfSome, IfNone, OnOk, OnErr, IsPermutation};
+ghost use Rattle.std.specs.Prelude.{◌≡◌, ◌⊎◌, ◌∷◌, ◌++◌, ◌+◌, ◌*◌, ◌<◌, ◌≤◌, [], ℕ, true, false, Bool, List, Some, length, map, remove, slice_get, Contains, IfOk, IfSome, IfNone, OnOk, OnErr, IsPermutation};
 ghost use Rattle.lin_events.specs.declared.items.Item.{Item as ItemOf};
 ghost use Rattle.lin_events.specs.declared.calls.Name.{Name as NameOf};
 ghost use Rattle.lin_events.specs.declared.calls.Reply.{Reply as ReplyOf};
@@ -11,6 +11,7 @@ ghost use Rattle.lin_order.specs.Linearizable.{IsLinearizableBy};
 ghost use Rattle.lin_members.specs.declared.members.Path.{Path as PathOf};
 ghost use Rattle.lin_members.specs.Asking.{alone_of, AreAlone, AreFoundWith, IsCompletedWith, IsNextWith, IsReturnWith};
 ghost use Rattle.lin_members.specs.Compressed.{IsCompressed, IsCovering};
+ghost use Rattle.lin_frontier.specs.declared.pending.Open.{Open as OpenOf};
 ghost use Rattle.lin_frontier.specs.Frontiers.{IsNextEvent, IsPending};
 ghost use Rattle.lin_members.specs.Members.{Member as MemberOf};
 ghost use Rattle.lin_frontier.specs.Nodes.{IsGrown};
@@ -21,7 +22,7 @@ ghost use Rattle.lin_frontier.specs.Walks.{IsTriedAtMost};
 
 use crate::completions::{Completion, push_if};
 use crate::scratch::Scratch;
-use crate::thinning::thinned;
+use crate::thinning::{pruned_several, thinned};
 use lin_events::{
     Body, Event, Meter, OutOfMemory, Reply, ends_are_unique, well_formed_is_alternating,
 };
@@ -31,7 +32,7 @@ use lin_frontier::{
 use lin_members::{
     Member, Pool, RoundNodes, copied, dominated_can_go, members_after_events, members_after_ok,
     members_are_exact, overwritten_after_events, overwritten_after_observer,
-    overwritten_after_update, overwritten_can_go, pruned_many, push_member, rounds_after_events,
+    overwritten_after_update, overwritten_can_go, push_member, rounds_after_events,
     rounds_allow_overwritten, rounds_go_ahead, rounds_spell_members, rounds_take_operations,
     start_is_complete, taken_out,
 };
@@ -162,7 +163,25 @@ fn absent_ones<'m, S: Eq + Hash + Drop>(
     Ok(out)
 }
 
-/// Puts the member without the operation last, if it is placed in it with the reply.
+/// Puts the member without the operation of the process last.
+#[inline(never)]
+fn push_rest<O: SeqObject>(
+    object: &O,
+    alloc: Global,
+    pending: &Pending,
+    member: &Member<O::State>,
+    process: u64,
+    out: &mut Vec<Member<O::State>>,
+    pool: &mut Pool,
+) -> Result<(), OutOfMemory>
+    ensures { OnOk result (out.new.items ≡ out.old.items ++ rest_of (O.observing object.now) pending.now process member.now ∷ []) }
+{
+    let rest = taken_out(object, alloc, pending, member, process, pool)?;
+    push_member(out, rest)?;
+    Ok(())
+}
+
+/// Puts the member without the operation last, if it is placed in it with the reply. Mostly it has no place.
 #[inline(always)]
 fn push_taken_out<O: SeqObject>(
     object: &O,
@@ -178,12 +197,12 @@ fn push_taken_out<O: SeqObject>(
     if !is_placed(member.placed(), ended.0, ended.1) {
         return Ok(());
     }
-    let rest = taken_out(object, alloc, pending, member, ended.0, pool)?;
-    push_member(out, rest)?;
+    push_rest(object, alloc, pending, member, ended.0, out, pool)?;
     Ok(())
 }
 
 /// The members that placed the operation with the reply, without it, put last.
+#[inline(always)]
 pub(crate) fn push_all_taken_out<O: SeqObject>(
     object: &O,
     alloc: Global,
@@ -317,7 +336,7 @@ fn kept<O: SeqObject>(
     if alone {
         return thinned(object, alloc, pending, alone_all(found));
     }
-    pruned_many(object, alloc, pending, found)
+    pruned_several(object, alloc, pending, found)
 }
 
 /// The members after the event, or `None` where a search comes to more than the limit. The operations that are pending
@@ -392,7 +411,45 @@ fn next_members<O: SeqObject>(
     }
 }
 
-/// The operations that are open after the event, in the list.
+/// The place of the operation of the process, if it has one that is open.
+fn place_of(pending: &[Open], process: u64) -> Option<usize>
+    ensures { IfSome result (λ place. (o : OpenOf) × (slice_get pending.now place ≡ Some o) × (o.process ≡ process)) }
+{
+    let mut place = 0;
+    while let Some(operation) = pending.get(place) {
+        if operation.process == process {
+            return Some(place);
+        }
+        place += 1;
+    }
+    None
+}
+
+/// The place of the operation that the event ends, so that it is open no longer.
+fn ended_by(pending: &[Open], event: &Event) -> Option<usize>
+    ensures { IfSome result (λ place. ((o : OpenOf) × (slice_get pending.now place ≡ Some o) × (o.process ≡ event.now.process))
+        × (((name : NameOf) × (reply : ReplyOf) × (event.now.body ≡ BodyOf.Ok name reply)) ⊎ ((name : NameOf) × (event.now.body ≡ BodyOf.Fail name)))) }
+{
+    match &event.body {
+        Body::Ok(_, _) | Body::Fail(_) => place_of(pending, event.process),
+        Body::Invoke(_) | Body::Info(_) => None,
+    }
+}
+
+/// The operations but for the one at the place, in the empty list.
+fn others(list: Vec<Open>, operations: &[Open], place: usize) -> Result<Vec<Open>, OutOfMemory>
+    requires empty { list.items ≡ [] }
+    requires inside { place < length operations.now }
+    ensures { IfOk result (λ out. out.items ≡ remove operations.now place) }
+{
+    let mut out = list;
+    append_operations(&mut out, &operations[..place])?;
+    append_operations(&mut out, &operations[place + 1..])?;
+    Ok(out)
+}
+
+/// The operations that are open after the event, in the list. One that ended isn't copied first.
+#[inline(always)]
 pub(crate) fn open_after(
     list: Vec<Open>,
     before: &[Open],
@@ -403,6 +460,11 @@ pub(crate) fn open_after(
     ensures pending { IfOk result (λ after. (functions : ItemOf → NameOf → Bool) (h : List EventOf) → IsNextEvent functions h before.now at event.now → IsPending (with_event h event.now) after.items) }
     ensures len { IfOk result (λ after. length after.items ≤ length before.now + 1) }
 {
+    well_formed_is_alternating();
+    ends_are_unique();
+    if let Some(place) = ended_by(before, event) {
+        return others(list, before, place);
+    }
     let mut after = list;
     append_operations(&mut after, before)?;
     take_in(&mut after, at, event)?;

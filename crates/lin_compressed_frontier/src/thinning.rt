@@ -2,6 +2,7 @@
 ghost use Rattle.std.specs.Prelude.{◌≡◌, Some, Contains, IfOk, slice_get};
 ghost use Rattle.lin_members.specs.declared.members.Path.{Path as PathOf};
 ghost use Rattle.lin_members.specs.Members.{Member as MemberOf};
+ghost use Rattle.lin_members.specs.Searching.{IsPruned};
 ghost use Rattle.lin_members.specs.Settling.{IsSettled, IsShadow, IsThinned};
 
 use crate::exchanges::{are_some_alike, settle};
@@ -81,6 +82,22 @@ fn picked<O: SeqObject>(
     Ok(out)
 }
 
+/// The members of which no other one is above any. One alone isn't compared.
+#[inline(always)]
+pub(crate) fn pruned_several<O: SeqObject>(
+    object: &O,
+    alloc: Global,
+    pending: &Pending,
+    members: Vec<Member<O::State>>,
+) -> Result<Vec<Member<O::State>>, OutOfMemory>
+    ensures { IfOk result (λ out. IsPruned (O.observing object.now) pending.now members.items out.items) }
+{
+    if members.len() <= 1 {
+        return Ok(members);
+    }
+    pruned_many(object, alloc, pending, members)
+}
+
 /// The members of which no other one dominates any. Of those that are alike but for crashed operations that have the same
 /// call, one stands for all.
 pub fn thinned<O: SeqObject>(
@@ -91,12 +108,12 @@ pub fn thinned<O: SeqObject>(
 ) -> Result<Vec<Member<O::State>>, OutOfMemory>
     ensures { IfOk result (λ out. IsThinned (O.observing object.now) pending.now members.items out.items) }
 {
-    let first = pruned_many(object, alloc, pending, members)?;
+    let first = pruned_several(object, alloc, pending, members)?;
     if !are_some_alike(pending.as_slice()) {
         return Ok(first);
     }
     let others = shadows(object, alloc, pending, &first)?;
-    let kept = pruned_many(object, alloc, pending, others)?;
+    let kept = pruned_several(object, alloc, pending, others)?;
     let fewer = picked(object, alloc, &first, &kept)?;
-    pruned_many(object, alloc, pending, fewer)
+    pruned_several(object, alloc, pending, fewer)
 }

@@ -19,4 +19,4 @@ returns g c =
       c.in_ok-first.ensures,
       fewer_from c.args.pending.now first (g.O.SeqObject.observing c.args.object.now) others kept fewer sound complete c.in_ok-kept.ensures from picks,
       says,
-    )) c.pruned_many-3.result c.pruned_many-3.ensures
+    )) c.pruned_several-3.result c.pruned_several-3.ensures
