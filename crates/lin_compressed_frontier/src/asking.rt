@@ -365,6 +365,7 @@ impl<'a, O: SeqObject> Completion<'a, O> {
     }
 
     /// The same for each update behind all that gives the observer its reply.
+    #[inline(never)]
     fn ask_all_behind(
         &self,
         member: &Member<O::State>,
@@ -430,6 +431,7 @@ impl<'a, O: SeqObject> Completion<'a, O> {
     }
 
     /// And for each early one ahead.
+    #[inline(never)]
     fn ask_all_ahead(
         &self,
         member: &Member<O::State>,
@@ -500,6 +502,7 @@ impl<'a, O: SeqObject> Completion<'a, O> {
     }
 
     /// Puts in `out` what the observer makes of the member with its reply.
+    #[inline(always)]
     fn return_observer(
         &self,
         member: &Member<O::State>,

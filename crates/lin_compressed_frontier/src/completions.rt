@@ -263,6 +263,7 @@ impl<'a, O: SeqObject> Completion<'a, O> {
     }
 
     /// Whether the operation can give the reply in this state.
+    #[inline(always)]
     pub(crate) fn gives(
         &self,
         state: &O::State,
@@ -284,6 +285,7 @@ impl<'a, O: SeqObject> Completion<'a, O> {
     }
 
     /// A round in which the operation can take the reply, if there is one.
+    #[inline(always)]
     pub(crate) fn round_given(
         &self,
         member: &Member<O::State>,

@@ -341,6 +341,7 @@ fn kept<O: SeqObject>(
 
 /// The members after the event, or `None` where a search comes to more than the limit. The operations that are pending
 /// are those that are open after it.
+#[inline(always)]
 fn next_members<O: SeqObject>(
     arrival: &Arrival<O>,
     members: &[Member<O::State>],

@@ -46,6 +46,7 @@ fn emptied<T: Drop>(alloc: Global, list: &mut Vec<T>) -> Vec<T>
 }
 
 /// Gives the lists of all the members up, to be used again.
+#[inline(always)]
 pub(crate) fn give_up_all<S: Eq + Hash + Drop>(members: &mut Vec<Member<S>>, pool: &mut Pool)
     ensures { members.new.items ≡ [] }
 {

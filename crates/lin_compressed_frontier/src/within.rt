@@ -381,6 +381,7 @@ impl<O: SeqObject> Compressed<O> {
     }
 
     /// Whether there are more configurations than the budget, as far as it is told without making any. Not so where all are counted.
+    #[inline(always)]
     fn is_surely_over(&self, arrival: &Arrival<O>, budget: usize) -> Result<bool, OutOfMemory>
         ensures { IfOk result (λ over. over ≡ true → (functions : ItemOf → NameOf → Bool) (h : List EventOf) (nodes : List (ℕ × (PlacedOf × Option ℕ))) → IsWellFormed functions h → IsPending h arrival.now.pending.now
             → IsCompressed (O.starts arrival.now.object.now) (O.step arrival.now.object.now) (O.observing arrival.now.object.now) (O.overwriting arrival.now.object.now) h self.now nodes
