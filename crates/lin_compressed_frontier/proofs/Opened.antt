@@ -1,5 +1,6 @@
 -- The operations that are open after an event that ends one of them.
-use Rattle.std.proofs.Common.{◌≡◌, ◌⊎◌, ◌+◌, ◌<◌, ◌≤◌, ℕ, suc, zero, Bool, List, [], ◌∷◌, length, Some, inl, inr, refl, sym, subst, arith, slice_get}
+use Rattle.std.proofs.Common.{◌≡◌, ◌⊎◌, ◌+◌, ◌<◌, ◌≤◌, ℕ, suc, zero, Bool, List, [], ◌∷◌, length, Option, Some, None, inl, inr, refl, sym, subst, arith, slice_get}
+use Rattle.std.specs.Prelude.{IfSome, IfNone}
 use Rattle.std.specs.List.{remove}
 use Rattle.lin_events.specs.declared.items.Item.{Item}
 use Rattle.lin_events.specs.declared.calls.Name.{Name}
@@ -35,3 +36,13 @@ no_more [] zero = omega arith
 no_more [] (suc i) = omega arith
 no_more (x ∷ xs) zero = omega arith
 no_more (x ∷ xs) (suc i) = let fewer = no_more xs i in let same : length (remove (x ∷ xs) (suc i)) ≡ suc (length (remove xs i)) = refl in omega arith
+
+-- of what is there more may be said
+pub some_weaker : {A : Type 0} (P Q : A → Type 0) → ((a : A) → P a → Q a) → (r : Option A) → IfSome r P → IfSome r Q
+some_weaker P Q w (Some a) h = w a h
+some_weaker P Q w None h = h
+
+-- what holds of the part, and else of the list, holds of what is taken of them
+pub either_holds : {A : Type 0} (P : List Open → Type 0) (view : A → List Open) (part : Option A) (list after : List Open) → IfSome part (λ p. P (view p)) → IfNone part (P list) → IfSome part (λ p. after ≡ view p) → IfNone part (after ≡ list) → P after
+either_holds P view (Some p) list after some none is_some is_none = subst P (sym is_some) some
+either_holds P view None list after some none is_some is_none = subst P (sym is_none) none

@@ -472,6 +472,65 @@ pub(crate) fn open_after(
     Ok(after)
 }
 
+/// The operations but for the one at the place, where that is the first or the last one.
+fn part_without(operations: &[Open], place: usize) -> Option<&[Open]>
+    requires { place < length operations.now }
+    ensures { IfSome result (λ part. part.now ≡ remove operations.now place) }
+{
+    if place == 0 {
+        return Some(&operations[1..]);
+    }
+    if place + 1 == operations.len() {
+        return Some(&operations[..place]);
+    }
+    None
+}
+
+/// The operations that are open after the event, where they are a part of those before it, so that none is copied.
+#[inline(always)]
+fn part_after<'a>(before: &'a [Open], event: &Event) -> Option<&'a [Open]>
+    ensures pending { IfSome result (λ after. (functions : ItemOf → NameOf → Bool) (h : List EventOf) (at : ℕ) → IsNextEvent functions h before.now at event.now → IsPending (with_event h event.now) after.now) }
+    ensures len { IfSome result (λ after. length after.now ≤ length before.now + 1) }
+{
+    well_formed_is_alternating();
+    ends_are_unique();
+    match ended_by(before, event) {
+        Some(place) => part_without(before, place),
+        None => None,
+    }
+}
+
+/// The operations that are open after the event, in the list, unless they are a part of those before it.
+#[inline(always)]
+fn list_after(
+    part: Option<&[Open]>,
+    list: Vec<Open>,
+    before: &[Open],
+    at: usize,
+    event: &Event,
+) -> Result<Vec<Open>, OutOfMemory>
+    requires { list.items ≡ [] }
+    ensures pending { IfOk result (λ after. IfNone part.entry ((functions : ItemOf → NameOf → Bool) (h : List EventOf) → IsNextEvent functions h before.now at event.now → IsPending (with_event h event.now) after.items)) }
+    ensures len { IfOk result (λ after. IfNone part.entry (length after.items ≤ length before.now + 1)) }
+{
+    match part {
+        Some(_) => Ok(list),
+        None => open_after(list, before, at, event),
+    }
+}
+
+/// The part, or else the list.
+#[inline(always)]
+fn either<'a>(part: Option<&'a [Open]>, list: &'a [Open]) -> &'a [Open]
+    ensures some { IfSome part.entry (λ p. result.now ≡ p.now) }
+    ensures none { IfNone part.entry (result.now ≡ list.now) }
+{
+    match part {
+        Some(part) => part,
+        None => list,
+    }
+}
+
 /// The members after the event, none of which another one is above; `None` where a search comes to more than the limit.
 fn advanced<O: SeqObject>(
     arrival: &Arrival<O>,
@@ -505,14 +564,22 @@ fn advanced<O: SeqObject>(
     overwritten_after_observer(arrival.object);
     rounds_go_ahead(arrival.object);
     rounds_allow_overwritten::<O>();
-    let after = open_after(scratch.open(), arrival.pending, arrival.at, arrival.event)?;
-    let pending = Pending::of(&after);
+    let part = part_after(arrival.pending, arrival.event);
+    let list = list_after(
+        part,
+        scratch.open(),
+        arrival.pending,
+        arrival.at,
+        arrival.event,
+    )?;
+    let after = either(part, &list);
+    let pending = Pending::of(after);
     let Some(found) = next_members(arrival, members, &pending, search, nodes, meter, scratch)?
     else {
         return Ok(None);
     };
     let kept = kept(arrival.object, arrival.alloc, &pending, found, search.alone)?;
-    scratch.keep_open(after);
+    scratch.keep_open(list);
     Ok(Some(kept))
 }
 

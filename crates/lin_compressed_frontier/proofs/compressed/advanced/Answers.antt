@@ -1,9 +1,15 @@
-use Rattle.std.proofs.Common.{◌+◌, ◌*◌, ◌∙◌, ap, arith, inl, inr, length}
+use Rattle.std.proofs.Common.{◌+◌, ◌*◌, ◌≤◌, Bool, List, ap, arith, inl, inr, length}
 use Rattle.std.proofs.lemmas.Bool.{cases_Bool}
+use Rattle.lin_events.specs.declared.items.Item.{Item}
+use Rattle.lin_events.specs.declared.calls.Name.{Name}
+use Rattle.lin_events.specs.declared.events.Event.{Event}
+use Rattle.lin_order.specs.ConfigurationLaws.{with_event}
+use Rattle.lin_frontier.specs.Frontiers.{IsNextEvent, IsPending}
 use Rattle.lin_frontier.specs.lemmas.Answered.{from_some}
 use Rattle.lin_frontier.specs.lemmas.Counting.{tried_longer, tried_within}
 use Rattle.lin_compressed_frontier.proofs.Advancing.{advances_with, alone_advances}
 use Rattle.lin_compressed_frontier.proofs.Compressing.{Laws, completes_open, covering_stays}
+use Rattle.lin_compressed_frontier.proofs.Opened.{either_holds, some_weaker}
 use Rattle.lin_compressed_frontier.proofs.compressed.advanced.Goals as goal
 
 pub returns-clause-next : goal.returns-clause-next
@@ -41,9 +47,11 @@ returns-clause-next g c functions h next covering =
       allows_put = c.rounds_allow_overwritten.ensures.put;
       allows_begins = c.rounds_allow_overwritten.ensures.begins;
     } in
-    let pending = c.in_ok-after.after.items in
-    let opened = c.in_ok-after.ensures.pending functions h next in
-    let same = c.of-pending.ensures ∙ c.deref.ensures.value in
+    let pending = c.either-after.result.now in
+    let opened = either_holds (λ l. (functions' : Item → Name → Bool) (h' : List Event) → IsNextEvent functions' h' c.args.arrival.now.pending.now c.args.arrival.now.at c.args.arrival.now.event.now → IsPending (with_event h' c.args.arrival.now.event.now) l)
+    (λ p. p.now) c.part_after-part.result c.in_ok-list.list.items pending (some_weaker _ _ (λ p all functions' h'. all functions' h' c.args.arrival.now.at) c.part_after-part.result c.part_after-part.ensures.pending) c.in_ok-list.ensures.pending
+    c.either-after.ensures.some (rw c.deref.ensures.value at c.either-after.ensures.none) functions h next in
+    let same = c.of-pending.ensures in
     let completes = completes_open begin step observes laws functions h c.args.arrival.now.pending.now c.args.arrival.now.at c.args.arrival.now.event.now next pending opened in
     let covered = covering_stays begin step observes (g.O.SeqObject.overwriting c.args.arrival.now.object.now) h c.args.nodes.now c.next_members.new.nodes c.args.members.now c.next_members.ensures.grown covering in
     elim (cases_Bool c.args.search.alone) [
@@ -59,32 +67,32 @@ returns-clause-next g c functions h next covering =
 
 pub returns-in_err-found-clause-tried : goal.returns-in_err-found-clause-tried
 returns-in_err-found-clause-tried g c =
-    tried_within c.args.search.limit (length c.args.members.now) (length c.of-pending.result) (length c.args.arrival.now.pending.now) _ _ (omega (arith, c.in_ok-after.ensures.len, ap length (c.of-pending.ensures ∙ c.deref.ensures.value))) c.next_members.ensures.tried
+    tried_within c.args.search.limit (length c.args.members.now) (length c.of-pending.result) (length c.args.arrival.now.pending.now) _ _ (let len = either_holds (λ l. length l ≤ length c.args.arrival.now.pending.now + 1) (λ p. p.now) c.part_after-part.result c.in_ok-list.list.items c.either-after.result.now c.part_after-part.ensures.len c.in_ok-list.ensures.len c.either-after.ensures.some (rw c.deref.ensures.value at c.either-after.ensures.none) in omega (arith, len, ap length c.of-pending.ensures)) c.next_members.ensures.tried
 
 pub returns-in_default-clause-tried : goal.returns-in_default-clause-tried
 returns-in_default-clause-tried g c =
-    tried_within c.args.search.limit (length c.args.members.now) (length c.of-pending.result) (length c.args.arrival.now.pending.now) _ _ (omega (arith, c.in_ok-after.ensures.len, ap length (c.of-pending.ensures ∙ c.deref.ensures.value))) c.next_members.ensures.tried
+    tried_within c.args.search.limit (length c.args.members.now) (length c.of-pending.result) (length c.args.arrival.now.pending.now) _ _ (let len = either_holds (λ l. length l ≤ length c.args.arrival.now.pending.now + 1) (λ p. p.now) c.part_after-part.result c.in_ok-list.list.items c.either-after.result.now c.part_after-part.ensures.len c.in_ok-list.ensures.len c.either-after.ensures.some (rw c.deref.ensures.value at c.either-after.ensures.none) in omega (arith, len, ap length c.of-pending.ensures)) c.next_members.ensures.tried
 
 pub returns-clause-tried : goal.returns-clause-tried
 returns-clause-tried g c =
-    tried_within c.args.search.limit (length c.args.members.now) (length c.of-pending.result) (length c.args.arrival.now.pending.now) _ _ (omega (arith, c.in_ok-after.ensures.len, ap length (c.of-pending.ensures ∙ c.deref.ensures.value))) c.next_members.ensures.tried
+    tried_within c.args.search.limit (length c.args.members.now) (length c.of-pending.result) (length c.args.arrival.now.pending.now) _ _ (let len = either_holds (λ l. length l ≤ length c.args.arrival.now.pending.now + 1) (λ p. p.now) c.part_after-part.result c.in_ok-list.list.items c.either-after.result.now c.part_after-part.ensures.len c.in_ok-list.ensures.len c.either-after.ensures.some (rw c.deref.ensures.value at c.either-after.ensures.none) in omega (arith, len, ap length c.of-pending.ensures)) c.next_members.ensures.tried
 
 pub returns-in_err-kept-clause-tried : goal.returns-in_err-kept-clause-tried
 returns-in_err-kept-clause-tried g c =
-    tried_within c.args.search.limit (length c.args.members.now) (length c.of-pending.result) (length c.args.arrival.now.pending.now) _ _ (omega (arith, c.in_ok-after.ensures.len, ap length (c.of-pending.ensures ∙ c.deref.ensures.value))) c.next_members.ensures.tried
+    tried_within c.args.search.limit (length c.args.members.now) (length c.of-pending.result) (length c.args.arrival.now.pending.now) _ _ (let len = either_holds (λ l. length l ≤ length c.args.arrival.now.pending.now + 1) (λ p. p.now) c.part_after-part.result c.in_ok-list.list.items c.either-after.result.now c.part_after-part.ensures.len c.in_ok-list.ensures.len c.either-after.ensures.some (rw c.deref.ensures.value at c.either-after.ensures.none) in omega (arith, len, ap length c.of-pending.ensures)) c.next_members.ensures.tried
 
 pub returns-in_err-found-clause-searched : goal.returns-in_err-found-clause-searched
 returns-in_err-found-clause-searched g c alone =
-    tried_longer c.args.search.limit (2 * length c.of-pending.result + 1) (2 * length c.args.arrival.now.pending.now + 3) _ _ (omega (arith, c.in_ok-after.ensures.len, ap length (c.of-pending.ensures ∙ c.deref.ensures.value))) (c.next_members.ensures.searched alone)
+    tried_longer c.args.search.limit (2 * length c.of-pending.result + 1) (2 * length c.args.arrival.now.pending.now + 3) _ _ (let len = either_holds (λ l. length l ≤ length c.args.arrival.now.pending.now + 1) (λ p. p.now) c.part_after-part.result c.in_ok-list.list.items c.either-after.result.now c.part_after-part.ensures.len c.in_ok-list.ensures.len c.either-after.ensures.some (rw c.deref.ensures.value at c.either-after.ensures.none) in omega (arith, len, ap length c.of-pending.ensures)) (c.next_members.ensures.searched alone)
 
 pub returns-in_default-clause-searched : goal.returns-in_default-clause-searched
 returns-in_default-clause-searched g c alone =
-    tried_longer c.args.search.limit (2 * length c.of-pending.result + 1) (2 * length c.args.arrival.now.pending.now + 3) _ _ (omega (arith, c.in_ok-after.ensures.len, ap length (c.of-pending.ensures ∙ c.deref.ensures.value))) (c.next_members.ensures.searched alone)
+    tried_longer c.args.search.limit (2 * length c.of-pending.result + 1) (2 * length c.args.arrival.now.pending.now + 3) _ _ (let len = either_holds (λ l. length l ≤ length c.args.arrival.now.pending.now + 1) (λ p. p.now) c.part_after-part.result c.in_ok-list.list.items c.either-after.result.now c.part_after-part.ensures.len c.in_ok-list.ensures.len c.either-after.ensures.some (rw c.deref.ensures.value at c.either-after.ensures.none) in omega (arith, len, ap length c.of-pending.ensures)) (c.next_members.ensures.searched alone)
 
 pub returns-clause-searched : goal.returns-clause-searched
 returns-clause-searched g c alone =
-    tried_longer c.args.search.limit (2 * length c.of-pending.result + 1) (2 * length c.args.arrival.now.pending.now + 3) _ _ (omega (arith, c.in_ok-after.ensures.len, ap length (c.of-pending.ensures ∙ c.deref.ensures.value))) (c.next_members.ensures.searched alone)
+    tried_longer c.args.search.limit (2 * length c.of-pending.result + 1) (2 * length c.args.arrival.now.pending.now + 3) _ _ (let len = either_holds (λ l. length l ≤ length c.args.arrival.now.pending.now + 1) (λ p. p.now) c.part_after-part.result c.in_ok-list.list.items c.either-after.result.now c.part_after-part.ensures.len c.in_ok-list.ensures.len c.either-after.ensures.some (rw c.deref.ensures.value at c.either-after.ensures.none) in omega (arith, len, ap length c.of-pending.ensures)) (c.next_members.ensures.searched alone)
 
 pub returns-in_err-kept-clause-searched : goal.returns-in_err-kept-clause-searched
 returns-in_err-kept-clause-searched g c alone =
-    tried_longer c.args.search.limit (2 * length c.of-pending.result + 1) (2 * length c.args.arrival.now.pending.now + 3) _ _ (omega (arith, c.in_ok-after.ensures.len, ap length (c.of-pending.ensures ∙ c.deref.ensures.value))) (c.next_members.ensures.searched alone)
+    tried_longer c.args.search.limit (2 * length c.of-pending.result + 1) (2 * length c.args.arrival.now.pending.now + 3) _ _ (let len = either_holds (λ l. length l ≤ length c.args.arrival.now.pending.now + 1) (λ p. p.now) c.part_after-part.result c.in_ok-list.list.items c.either-after.result.now c.part_after-part.ensures.len c.in_ok-list.ensures.len c.either-after.ensures.some (rw c.deref.ensures.value at c.either-after.ensures.none) in omega (arith, len, ap length c.of-pending.ensures)) (c.next_members.ensures.searched alone)
