@@ -31,7 +31,8 @@ fn newlines(bytes: &[u8]) -> u64
     ensures count { result ≡ count_newlines bytes.now }
     ensures within { result ≤ length bytes.now }
 {
-    memchr_iter(b'\n', bytes).count() as u64
+    // (its own `count` looks at byte after byte, and most lines are long)
+    Iterator::count(memchr_iter(b'\n', bytes)) as u64
 }
 
 /// A later place of a text.
