@@ -24,7 +24,7 @@ use Rattle.lin_program.specs.Reporting.{AreAmong, AreReported, Holds, IsNotOpene
 use Rattle.lin_report.specs.declared.formats.ReportFormat.TheVariants.{Text}
 use Rattle.lin_program.specs.Tasks.{HasBudget, IsUnkeyedRun, format_among, report_format}
 use Rattle.lin_program.specs.declared.endings.Stop.{Stop}
-use Rattle.lin_program.specs.declared.endings.Stop.TheVariants.{NotOpened, NoKey, Written, Fault}
+use Rattle.lin_program.specs.declared.endings.Stop.TheVariants.{NotOpened, NoKey, Written, FaultWritten, Fault}
 use Rattle.lin_program.specs.declared.system.Message.{Message}
 use Rattle.lin_program.specs.declared.system.Message.TheVariants as message
 
@@ -175,6 +175,7 @@ module _ {S F C O : Type 0} (system : SystemWords S F C O) (old new : S) where
   EndsBy (Err (NotOpened path)) status = IsTold (TellsOfFile path.now) × (status ≡ 6)
   EndsBy (Err (NoKey path words)) status = IsTold (TellsOfKey path.now words.items) × (status ≡ 5)
   EndsBy (Err Written) status = (new ≡ old) × (status ≡ 6)
+  EndsBy (Err (FaultWritten fault)) status = (new ≡ old) × (status ≡ exit_status (Err fault))
   EndsBy (Err (Fault fault)) status = IsTold (λ m. m ≡ message.Fault fault) × (status ≡ exit_status (Err fault))
 
 -- The program ends so on a line: what the line says is done with the old system; of some of its files it may be told which maps were passed over, or

@@ -1,5 +1,5 @@
 -- Files that are reported on, one behind the other.
-use Rattle.std.specs.Prelude.{◌≡◌, ◌⊎◌, ℕ, Bool, true, false, List, [], ◌∷◌, ◌++◌, Option, Some, None, Result, Ok, Err, codes, length, nat_lt, take, All, Contains}
+use Rattle.std.specs.Prelude.{◌≡◌, ◌⊎◌, ℕ, Bool, true, false, List, [], ◌∷◌, ◌++◌, Option, Some, None, Result, Ok, Err, codes, length, nat_lt, take, All, Contains, MatchBool}
 use Rattle.std.specs.Borrow.{Bor}
 use Rattle.std.specs.Io.KnownBytes.{Appends, Keeps}
 use Rattle.std.specs.Str.{bytes_eq}
@@ -7,21 +7,12 @@ use Rattle.lin_texts.specs.declared.status.Status.{Status}
 use Rattle.lin_texts.specs.declared.faults.RunFault.{RunFault}
 use Rattle.lin_texts.specs.declared.faults.RunFault.TheVariants.{WriteFailed, OutOfMemory}
 use Rattle.lin_program.specs.Exit.{SystemWords, worst}
-use Rattle.lin_program.specs.Tasks.{Running, heading_in, lack_in}
+use Rattle.lin_program.specs.Tasks.{Running, fault_rest, heading_in, is_map_ended, lack_in}
 use Rattle.lin_report.specs.declared.asked_keys.RunEnding.{RunEnding}
 use Rattle.lin_report.specs.declared.asked_keys.RunEnding.TheVariants as ending
 use Rattle.lin_report.specs.declared.formats.ReportFormat.{ReportFormat}
 use Rattle.lin_program.specs.declared.endings.Stop.{Stop}
-use Rattle.lin_program.specs.declared.endings.Stop.TheVariants.{NotOpened, NoKey, Written, Fault}
-
--- A run over a file that holds this at first, behind what names it where it is one of several: that is written, and then what the run writes; or it
--- couldn't be written whole, and there was no run.
-abbrev pub IsRunBehind : Running → Bool → List ℕ → Option (List ℕ) → Option (List ℕ) → Option (List ℕ) → Result RunEnding RunFault → Type 0
-IsRunBehind running false heading file before after outcome = (left : Option (List ℕ)) × running file left before after outcome
-IsRunBehind running true heading file before after outcome =
-    ((left : Option (List ℕ)) × (behind : Option (List ℕ)) × Appends before behind heading × running file left behind after outcome)
-    ⊎ ((outcome ≡ Err WriteFailed) × ((n : ℕ) × Appends before after (take n heading)))
-    ⊎ ((outcome ≡ Err OutOfMemory) × Keeps before after)
+use Rattle.lin_program.specs.declared.endings.Stop.TheVariants.{NotOpened, NoKey, Written, FaultWritten, Fault}
 
 -- Runs end so at the file of this name, which can't be opened: this line is written in its place, or, where there is none, nothing.
 abbrev pub IsEndAt : Option (List ℕ) → List ℕ → Option (List ℕ) → Option (List ℕ) → Stop → Type 0
@@ -41,6 +32,31 @@ abbrev pub IsEndedAt : List ℕ → Result RunEnding RunFault → Result Status 
 IsEndedAt name (Ok (ending.Answered status)) outcome = outcome ≡ Ok status
 IsEndedAt name (Ok (ending.NoKey words)) outcome = (path : Bor (List ℕ)) × (outcome ≡ Err (NoKey path words)) × (path.now ≡ name)
 IsEndedAt name (Err fault) outcome = outcome ≡ Err (Fault fault)
+
+-- Runs go on so behind one that ended so over the file of this name. Where it failed, what is left of the map that tells of the file is written, if
+-- reports are such maps; else nothing is.
+abbrev pub IsEndedIn : ReportFormat → List ℕ → Result RunEnding RunFault → Option (List ℕ) → Option (List ℕ) → Result Status Stop → Type 0
+IsEndedIn format name (Ok ended) before after outcome = IsEndedAt name (Ok ended) outcome × (after ≡ before)
+IsEndedIn format name (Err fault) before after outcome =
+    MatchBool (is_map_ended format fault)
+    (((outcome ≡ Err (FaultWritten fault)) × Appends before after (fault_rest fault))
+    ⊎ ((outcome ≡ Err (Fault WriteFailed)) × ((n : ℕ) × Appends before after (take n (fault_rest fault)))))
+    (IsEndedAt name (Err fault) outcome × (after ≡ before))
+
+-- a run over the file of this name, which holds this at first, and what is written of how it ended
+abbrev pub IsRunOn : Running → ReportFormat → List ℕ → Option (List ℕ) → Option (List ℕ) → Option (List ℕ) → Result Status Stop → Type 0
+IsRunOn running format name file before after outcome =
+    (left : Option (List ℕ)) × (between : Option (List ℕ)) × (run : Result RunEnding RunFault)
+    × running file left before between run × IsEndedIn format name run between after outcome
+
+-- The same, behind what names the file where it is one of several: that is written, and then what the run writes; or it couldn't be written whole, and
+-- there was no run.
+abbrev pub IsRunBehind : Running → ReportFormat → Bool → List ℕ → Option (List ℕ) → Option (List ℕ) → Option (List ℕ) → Result Status Stop → Type 0
+IsRunBehind running format false name file before after outcome = IsRunOn running format name file before after outcome
+IsRunBehind running format true name file before after outcome =
+    ((behind : Option (List ℕ)) × Appends before behind (heading_in format name) × IsRunOn running format name file behind after outcome)
+    ⊎ ((outcome ≡ Err (Fault WriteFailed)) × ((n : ℕ) × Appends before after (take n (heading_in format name))))
+    ⊎ ((outcome ≡ Err (Fault OutOfMemory)) × Keeps before after)
 
 -- the name is that of standard input
 abbrev pub is_input : List ℕ → Bool
@@ -88,7 +104,7 @@ module _ {S F C O : Type 0} (system : SystemWords S F C O) (held : F → Option 
   -- The file of a name is reported on in a format, behind what names it where it is one of several; or it can't be opened.
   abbrev pub IsReportOn : Running → ReportFormat → Bool → Reporting
   IsReportOn running format is_named name before after outcome =
-      ((file : Option (List ℕ)) × Holds name file × (run : Result RunEnding RunFault) × IsRunBehind running is_named (heading_in format name) file before after run × IsEndedAt name run outcome)
+      ((file : Option (List ℕ)) × Holds name file × IsRunBehind running format is_named name file before after outcome)
       ⊎ ((stop : Stop) × (outcome ≡ Err stop) × (is_input name ≡ false) × system.lacks now name × IsEndAt (lack_in format name) name before after stop)
 
   -- the files of these names are reported on, which are several or not; then each is behind what names it. A function gives what the output holds

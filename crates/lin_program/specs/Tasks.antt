@@ -12,6 +12,7 @@ use Rattle.lin_report.specs.declared.formats.ReportFormat.TheVariants as report
 use Rattle.lin_formats.specs.Verdicts.{IsVerifyRun}
 use Rattle.lin_texts.specs.declared.status.Status.{Status}
 use Rattle.lin_texts.specs.declared.faults.RunFault.{RunFault}
+use Rattle.lin_texts.specs.declared.faults.RunFault.TheVariants.{ReadFailed, WriteFailed, OutOfMemory, TooMuch}
 use Rattle.lin_texts.specs.declared.settings.Settings.{Settings}
 use Rattle.lin_program.specs.declared.words.Format.{Format}
 use Rattle.lin_program.specs.declared.words.Format.TheVariants.{Text, Json}
@@ -44,6 +45,22 @@ abbrev pub lack_in : ReportFormat → List ℕ → Option (List ℕ)
 lack_in report.Text name = None
 lack_in report.Json name = None
 lack_in report.Rest name = Some (lack_line name)
+
+-- what is left of the map that tells of a file over which a run failed so, behind the beginning that names the file
+abbrev pub fault_rest : RunFault → List ℕ
+fault_rest ReadFailed = codes "\"valid?\":\"unknown\",\"status\":6,\"answer\":\"1 ReadFailed\"}\n"
+fault_rest WriteFailed = codes "\"valid?\":\"unknown\",\"status\":6,\"answer\":\"2 WriteFailed\"}\n"
+fault_rest OutOfMemory = codes "\"valid?\":\"unknown\",\"status\":6,\"answer\":\"3 OutOfMemory\"}\n"
+fault_rest TooMuch = codes "\"valid?\":\"unknown\",\"status\":4,\"answer\":\"4 TooMuch\"}\n"
+
+-- whether such a map is ended behind a run that failed so: where reports are maps that name their files, unless nothing can be written
+abbrev pub is_map_ended : ReportFormat → RunFault → Bool
+is_map_ended report.Text fault = false
+is_map_ended report.Json fault = false
+is_map_ended report.Rest ReadFailed = true
+is_map_ended report.Rest WriteFailed = false
+is_map_ended report.Rest OutOfMemory = true
+is_map_ended report.Rest TooMuch = true
 
 -- a run can be made with this budget
 abbrev pub HasBudget : Settings → Type 0

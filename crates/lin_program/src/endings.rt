@@ -25,6 +25,8 @@ pub enum Stop<'a> {
     NoKey(&'a str, Vec<u8>),
     /// A file can't be opened, and that is written in place of its report.
     Written,
+    /// Memory or a device failed over a file, or it is too long, and that is written in its report.
+    FaultWritten(RunFault),
     /// Memory or a device failed, or a file is too long.
     Fault(RunFault),
 }

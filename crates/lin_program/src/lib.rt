@@ -293,6 +293,7 @@ fn end<S: System>(system: &mut S, outcome: Result<Status, Stop>) -> u8
             LINE_REFUSED
         }
         Err(Stop::Written) => FAILED,
+        Err(Stop::FaultWritten(fault)) => exit_of(&Err(fault)),
         Err(Stop::Fault(fault)) => {
             let _is_told = system.tell(&Message::Fault(fault));
             exit_of(&Err(fault))

@@ -1,15 +1,15 @@
 //! Files that are reported on, one behind the other.
-ghost use Rattle.std.specs.Prelude.{◌≡◌, ◌⊎◌, ◌++◌, ◌∷◌, [], IfErr, OnOk, Err, ℕ, take, map};
+ghost use Rattle.std.specs.Prelude.{◌≡◌, ◌<◌, ◌⊎◌, ◌++◌, ◌∷◌, [], IfErr, OnOk, Err, ℕ, take, map};
 ghost use Rattle.std.specs.Io.KnownBytes.{Appends, Keeps};
 ghost use Rattle.lin_formats.specs.Devices.{device_of, failures_of};
 ghost use Rattle.lin_program.specs.Tasks.{HasBudget, IsTaskRun, format_of, heading_in, lack_in, lack_line, settings_of, task_among};
 ghost use Rattle.lin_program.specs.Readings.{AreReadingsOf};
-ghost use Rattle.lin_program.specs.Reporting.{AreAmong, AreReported, IsEndAt, IsReportOn, IsRunBehind};
+ghost use Rattle.lin_program.specs.Reporting.{AreAmong, AreReported, IsEndAt, IsEndedIn, IsReportOn, IsRunBehind, IsRunOn};
 
 use crate::endings::{Stop, ended_at, worse};
 use crate::readings::{Reading, keep_reading};
 use crate::system::System;
-use crate::tasks::{Task, put_heading, put_lack};
+use crate::tasks::{Task, put_heading, put_lack, rest_of_map};
 use lin_formats::{Counted, PassedOver, Refusal, RunFault, Status, write_whole};
 use lin_report::{ReportFormat, RunEnding};
 use std::alloc::Global;
@@ -77,32 +77,76 @@ fn end_at<'a, W: Write>(
     }
 }
 
-/// Reports on a file that is open, behind what names it where it is one of several. What was seen of it goes to `seen`, where the report comes as far.
-fn report_on<R: Read + Drop, W: Write>(
+/// How runs go on behind one that ended so over the file of this name. Where it failed, that is written in the map that tells of the file, if there is
+/// one.
+fn end_in<'a, W: Write>(
+    format: ReportFormat,
+    name: &'a str,
+    ended: Result<RunEnding, RunFault>,
+    out: &mut Counted<W>,
+) -> Result<Status, Stop<'a>>
+    requires writes { failures_of out.old < u64.MAX }
+    ensures ended { IsEndedIn format name.now ended (W.contents (device_of out.old)) (W.contents (device_of out.new)) result }
+    ensures counts { OnOk result (failures_of out.new ≡ failures_of out.old) }
+{
+    let Err(fault) = ended else {
+        return ended_at(name, ended);
+    };
+    let Some(rest) = rest_of_map(format, fault) else {
+        return Err(Stop::Fault(fault));
+    };
+    match write_whole(out, rest) {
+        Ok(()) => Err(Stop::FaultWritten(fault)),
+        Err(fault) => Err(Stop::Fault(fault)),
+    }
+}
+
+/// Reports on a file that is open, and puts what was seen of it into `seen`, where the report comes as far.
+fn run_on<'a, R: Read + Drop, W: Write>(
     alloc: Global,
     task: Task,
-    name: &str,
-    is_named: bool,
+    name: &'a str,
     file: R,
     out: &mut Counted<W>,
     seen: &mut Seen,
-) -> Result<RunEnding, RunFault>
+) -> Result<Status, Stop<'a>>
     requires budget { HasBudget (settings_of task) }
     requires writes { failures_of out.old ≡ 0 }
-    ensures ran { IsRunBehind (IsTaskRun task.entry) is_named (heading_in (format_of task.entry) name.now) (R.remaining file) (W.contents (device_of out.old)) (W.contents (device_of out.new)) result }
+    ensures ran { IsRunOn (IsTaskRun task.entry) (format_of task.entry) name.now (R.remaining file) (W.contents (device_of out.old)) (W.contents (device_of out.new)) result }
     ensures counts { OnOk result (failures_of out.new ≡ 0) }
 {
-    if is_named {
-        write_name(alloc, task.format(), name, out)?;
-    }
     let mut file = Counted::new(file);
-    let outcome = task.run(alloc, &mut file, out);
+    let ended = task.run(alloc, &mut file, out);
     *seen = Seen {
         is_empty: file.is_empty(),
         passed: file.passed(),
         is_order_refused: matches!(file.refused(), Some(Refusal::BadPair { .. })),
     };
-    outcome
+    end_in(task.format(), name, ended, out)
+}
+
+/// The same, behind what names the file where it is one of several.
+fn report_on<'a, R: Read + Drop, W: Write>(
+    alloc: Global,
+    task: Task,
+    name: &'a str,
+    is_named: bool,
+    file: R,
+    out: &mut Counted<W>,
+    seen: &mut Seen,
+) -> Result<Status, Stop<'a>>
+    requires budget { HasBudget (settings_of task) }
+    requires writes { failures_of out.old ≡ 0 }
+    ensures ran { IsRunBehind (IsTaskRun task.entry) (format_of task.entry) is_named name.now (R.remaining file) (W.contents (device_of out.old)) (W.contents (device_of out.new)) result }
+    ensures counts { OnOk result (failures_of out.new ≡ 0) }
+{
+    if is_named {
+        match write_name(alloc, task.format(), name, out) {
+            Ok(()) => {}
+            Err(fault) => return Err(Stop::Fault(fault)),
+        }
+    }
+    run_on(alloc, task, name, file, out, seen)
 }
 
 /// Reports on the file of this name: on standard input for `-`, else on the file that the system opens. What was seen of it goes to `seen`.
@@ -123,14 +167,10 @@ fn report<'a, S: System>(
 {
     if name == "-" {
         let input = system.commands();
-        let ended = report_on(alloc, task, name, is_named, input, out, seen);
-        return ended_at(name, ended);
+        return report_on(alloc, task, name, is_named, input, out, seen);
     }
     match system.open(name) {
-        Some(file) => {
-            let ended = report_on(alloc, task, name, is_named, file, out, seen);
-            ended_at(name, ended)
-        }
+        Some(file) => report_on(alloc, task, name, is_named, file, out, seen),
         None => Err(end_at(alloc, task.format(), name, out)),
     }
 }

@@ -1,8 +1,8 @@
 //! What is done with one file.
-ghost use Rattle.std.specs.Prelude.{◌≡◌, ◌<◌, ◌++◌, OnOk};
+ghost use Rattle.std.specs.Prelude.{◌≡◌, ◌<◌, ◌++◌, false, true, MatchOption, OnOk};
 ghost use Rattle.lin_formats.specs.Devices.{device_of, failures_of, Counts};
 ghost use Rattle.lin_formats.specs.Verdicts.{is_write_failed};
-ghost use Rattle.lin_program.specs.Tasks.{HasBudget, IsTaskRun, answered as answered_by, format_among, heading_in, lack_line, settings_of, task_among};
+ghost use Rattle.lin_program.specs.Tasks.{HasBudget, IsTaskRun, answered as answered_by, fault_rest, format_among, heading_in, is_map_ended, lack_line, settings_of, task_among};
 ghost use Rattle.lin_program.specs.Tasks as said;
 
 use crate::refused_orders::verify_text;
@@ -120,6 +120,24 @@ pub fn put_lack(alloc: Global, text: &mut Vec<u8>, name: &str) -> Result<(), All
     put_unopened(alloc, text, name.as_bytes())?;
     text.push(b'\n')?;
     Ok(())
+}
+
+/// What is left to write of the map that tells of a file over which a run failed so, where there is one and it can be written.
+pub fn rest_of_map(format: lin_report::ReportFormat, fault: RunFault) -> Option<&'static [u8]>
+    ensures { MatchOption result (is_map_ended format fault ≡ false) (λ rest. (is_map_ended format fault ≡ true) × (rest.now ≡ fault_rest fault)) }
+{
+    match (format, fault) {
+        (lin_report::ReportFormat::Rest, RunFault::ReadFailed) => {
+            Some(b"\"valid?\":\"unknown\",\"status\":6,\"answer\":\"1 ReadFailed\"}\n")
+        }
+        (lin_report::ReportFormat::Rest, RunFault::OutOfMemory) => {
+            Some(b"\"valid?\":\"unknown\",\"status\":6,\"answer\":\"3 OutOfMemory\"}\n")
+        }
+        (lin_report::ReportFormat::Rest, RunFault::TooMuch) => {
+            Some(b"\"valid?\":\"unknown\",\"status\":4,\"answer\":\"4 TooMuch\"}\n")
+        }
+        _ => None,
+    }
 }
 
 /// The way of printing that a command line names.
