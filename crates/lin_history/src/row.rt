@@ -22,7 +22,7 @@ use crate::small::{Deed, Small, val_of};
 use crate::table::{EventFault, event_of};
 use crate::usual::{Taken, next_small, next_usual};
 use lin_edn::{Edn, Inside, Series};
-use lin_events::{Body, Call, Event, Item, Name, OutOfMemory, Reply};
+use lin_events::{Body, Call, Event, Item, OutOfMemory, Reply};
 use lin_names::Names;
 use std::alloc::Global;
 use std::collections::VecDeque;
@@ -161,8 +161,13 @@ fn body_of(deed: Deed) -> Body
     match deed {
         Deed::Read => Body::Invoke(Call::Read),
         Deed::Write(value) => Body::Invoke(Call::Write(val_of(value))),
-        Deed::Saw(value) => Body::Ok(Name::Read, Reply::Value(val_of(value))),
-        Deed::Wrote => Body::Ok(Name::Write, Reply::Done),
+        Deed::Enqueue(number) => Body::Invoke(Call::Enqueue(Item::Int(number))),
+        Deed::Dequeue => Body::Invoke(Call::Dequeue),
+        Deed::Add(number) => Body::Invoke(Call::Add(Item::Int(number))),
+        Deed::Acquire => Body::Invoke(Call::Acquire),
+        Deed::Release => Body::Invoke(Call::Release),
+        Deed::Saw(name, value) => Body::Ok(name, Reply::Value(val_of(value))),
+        Deed::Did(name) => Body::Ok(name, Reply::Done),
         Deed::Failed(name) => Body::Fail(name),
         Deed::Unknown(name) => Body::Info(name),
     }
@@ -330,13 +335,28 @@ pub(crate) fn put_small(ready: &mut VecDeque<Event>, small: Small) -> Result<(),
             key,
             Body::Invoke(Call::Write(val_of(value))),
         ),
-        Deed::Saw(value) => put_numbers(
+        Deed::Enqueue(number) => put_numbers(
             ready,
             process,
             key,
-            Body::Ok(Name::Read, Reply::Value(val_of(value))),
+            Body::Invoke(Call::Enqueue(Item::Int(number))),
         ),
-        Deed::Wrote => put_numbers(ready, process, key, Body::Ok(Name::Write, Reply::Done)),
+        Deed::Dequeue => put_numbers(ready, process, key, Body::Invoke(Call::Dequeue)),
+        Deed::Add(number) => put_numbers(
+            ready,
+            process,
+            key,
+            Body::Invoke(Call::Add(Item::Int(number))),
+        ),
+        Deed::Acquire => put_numbers(ready, process, key, Body::Invoke(Call::Acquire)),
+        Deed::Release => put_numbers(ready, process, key, Body::Invoke(Call::Release)),
+        Deed::Saw(name, value) => put_numbers(
+            ready,
+            process,
+            key,
+            Body::Ok(name, Reply::Value(val_of(value))),
+        ),
+        Deed::Did(name) => put_numbers(ready, process, key, Body::Ok(name, Reply::Done)),
         Deed::Failed(name) => put_numbers(ready, process, key, Body::Fail(name)),
         Deed::Unknown(name) => put_numbers(ready, process, key, Body::Info(name)),
     }

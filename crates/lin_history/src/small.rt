@@ -6,6 +6,7 @@ ghost use Rattle.lin_names.specs.Names.{Numbering};
 ghost use Rattle.lin_names.specs.Spelled.{numbered, seen};
 ghost use Rattle.lin_history.specs.Reading.{Reading};
 ghost use Rattle.lin_history.specs.Table.{body_of};
+ghost use Rattle.lin_history.specs.declared.table.EventType.TheVariants as EventType;
 ghost use Rattle.lin_history.specs.inner.Fields.{plain_view};
 ghost use Rattle.lin_history.specs.inner.Small.{number_said, number_value, small_body, small_event, small_val};
 
@@ -13,13 +14,18 @@ use crate::table::{EventType, Plain};
 use lin_events::{Item, Name, Val};
 use lin_names::Said;
 
-/// What an event of numbers alone says, if it is one of a register, or says no more than its function.
+/// What an event of numbers alone says: what is called, what a call found, or no more than its function.
 #[derive(Clone, Copy)]
 pub(crate) enum Deed {
     Read,
     Write(Option<i64>),
-    Saw(Option<i64>),
-    Wrote,
+    Enqueue(i64),
+    Dequeue,
+    Add(i64),
+    Acquire,
+    Release,
+    Saw(Name, Option<i64>),
+    Did(Name),
     Failed(Name),
     Unknown(Name),
 }
@@ -73,22 +79,48 @@ pub(crate) fn number_in(plain: Plain) -> Option<Option<i64>>
     }
 }
 
+/// What an invocation of this function says that holds nil or a number at most.
+#[inline(always)]
+fn call_of(name: Name, value: Option<i64>) -> Option<Deed>
+    ensures { IfSome result (λ deed. (m : Reading) → body_of m EventType.Invoke name (number_value value) ≡ Some (small_body deed)) }
+{
+    match (name, value) {
+        (Name::Read, _) => Some(Deed::Read),
+        (Name::Write, _) => Some(Deed::Write(value)),
+        (Name::Enqueue, Some(number)) => Some(Deed::Enqueue(number)),
+        (Name::Dequeue, _) => Some(Deed::Dequeue),
+        (Name::Add, Some(number)) => Some(Deed::Add(number)),
+        (Name::Acquire, _) => Some(Deed::Acquire),
+        (Name::Release, _) => Some(Deed::Release),
+        _ => None,
+    }
+}
+
+/// What an ok event of this function says that holds nil or a number at most.
+#[inline(always)]
+fn reply_of(name: Name, value: Option<i64>) -> Deed
+    ensures { (m : Reading) → body_of m EventType.Ok name (number_value value) ≡ Some (small_body result) }
+{
+    match name {
+        Name::Read => Deed::Saw(name, value),
+        Name::Dequeue => Deed::Saw(name, value),
+        Name::Write => Deed::Did(name),
+        Name::Cas => Deed::Did(name),
+        Name::Enqueue => Deed::Did(name),
+        Name::Add => Deed::Did(name),
+        Name::Acquire => Deed::Did(name),
+        Name::Release => Deed::Did(name),
+    }
+}
+
 /// What an event of this type and function says that holds nil or a number at most.
 #[inline(always)]
 pub(crate) fn deed_of(event_type: EventType, name: Name, value: Option<i64>) -> Option<Deed>
     ensures { IfSome result (λ deed. (m : Reading) → body_of m event_type name (number_value value) ≡ Some (small_body deed)) }
 {
     match event_type {
-        EventType::Invoke => match name {
-            Name::Read => Some(Deed::Read),
-            Name::Write => Some(Deed::Write(value)),
-            _ => None,
-        },
-        EventType::Ok => match name {
-            Name::Read => Some(Deed::Saw(value)),
-            Name::Write => Some(Deed::Wrote),
-            _ => None,
-        },
+        EventType::Invoke => call_of(name, value),
+        EventType::Ok => Some(reply_of(name, value)),
         EventType::Fail => Some(Deed::Failed(name)),
         EventType::Info => Some(Deed::Unknown(name)),
     }

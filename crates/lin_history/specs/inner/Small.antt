@@ -32,8 +32,13 @@ small_val (Some i) = val.Item (item.Int i)
 abbrev pub small_body : Deed → Body
 small_body deed.Read = body.Invoke call.Read
 small_body (deed.Write v) = body.Invoke (call.Write (small_val v))
-small_body (deed.Saw v) = body.Ok name.Read (reply.Value (small_val v))
-small_body deed.Wrote = body.Ok name.Write reply.Done
+small_body (deed.Enqueue i) = body.Invoke (call.Enqueue (item.Int i))
+small_body deed.Dequeue = body.Invoke call.Dequeue
+small_body (deed.Add i) = body.Invoke (call.Add (item.Int i))
+small_body deed.Acquire = body.Invoke call.Acquire
+small_body deed.Release = body.Invoke call.Release
+small_body (deed.Saw f v) = body.Ok f (reply.Value (small_val v))
+small_body (deed.Did f) = body.Ok f reply.Done
 small_body (deed.Failed f) = body.Fail f
 small_body (deed.Unknown f) = body.Info f
 
