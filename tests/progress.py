@@ -1,5 +1,5 @@
 #!/usr/bin/env python3
-"""What the program tells of a reading that takes long: a line on a terminal, and nothing elsewhere; and of a file that became shorter while it was read.
+"""What the program tells of a reading that takes long: a line on a terminal, and nothing elsewhere; and of a file that became shorter while it was read, or other bytes.
 
 Standard error is a pseudo terminal, a pipe or a file, and the history comes through a FIFO in some 2.5 seconds, or stands in a file. What the
 terminal has to show is a line at most once a second, over itself, and at the end of the reading, before the answer, an empty line. Standard output
@@ -188,6 +188,24 @@ class Case:
         if replies != wanted or told != b'lincheck: %s: it is shorter than what was read of it\n' % path.encode() or process.wait():
             raise Wrong('%r and %r' % (replies, told))
 
+    def changed(self):
+        """A file that gets other bytes in place of those that were pulled, as many or more, which is told once."""
+        path = self.file(QUICK)
+        process = subprocess.Popen([self.program, 'edit', path], stdin=subprocess.PIPE, stdout=subprocess.PIPE, stderr=subprocess.PIPE, bufsize=0)
+        replies, events, more = [], QUICK.count(b'\n'), HISTORY[:len(PAIR % (0, 0))]
+        read = QUICK + more
+        other = read[:-3] + bytes([read[-3] ^ 1]) + read[-2:]
+        for text in (None, QUICK, read, other + more, read + more + more):
+            if text is not None:
+                self.file(text)
+            process.stdin.write(b'pull\n')
+            replies.append(process.stdout.readline())
+        process.stdin.close()
+        wanted = [b'ok %d\n' % (events + it) for it in (0, 0, 2, 4, 6)]
+        told = process.stderr.read()
+        if replies != wanted or told != b'lincheck: %s: the bytes that were read of it have changed\n' % path.encode() or process.wait():
+            raise Wrong('%r and %r' % (replies, told))
+
     def standard_input(self):
         self.see(run_on_terminal([self.program, 'check', '-'], HISTORY, LATE), HISTORY)
 
@@ -204,6 +222,7 @@ CASES = [
     Case.quick,
     Case.late,
     Case.shorter,
+    Case.changed,
     Case.standard_input,
 ]
 
@@ -228,7 +247,7 @@ def has_terminals():
 
 def main():
     program = os.path.abspath(os.environ.get('LINCHECK') or built())
-    cases = CASES if has_terminals() else [Case.refused_pipe, Case.pipe, Case.errors_in_file, Case.shorter]
+    cases = CASES if has_terminals() else [Case.refused_pipe, Case.pipe, Case.errors_in_file, Case.shorter, Case.changed]
     if cases is not CASES:
         print('no pseudo terminal can be made here: only what is told elsewhere is looked at')
     with ThreadPoolExecutor(len(cases)) as pool:

@@ -1,4 +1,4 @@
-//! How far the reading of a file is, told on a terminal, and that a file became shorter than what was read of it.
+//! How far the reading of a file is, told on a terminal, and that a file became shorter than what was read of it, or holds other bytes there.
 ghost use Rattle.std.specs.Io.{ReadsAtMost, WritesAtMost};
 ghost use Rattle.std.specs.Io.KnownBytes.{Keeps, ReadConsumes, WriteAppends};
 
@@ -6,6 +6,7 @@ use std::cell::Cell;
 use std::fs::File;
 use std::io;
 use std::io::{IsTerminal, Read, Write};
+use std::os::unix::fs::FileExt;
 use std::time::Instant;
 
 /// For how many seconds a reading goes on before it is told how far it is, and from then to the next time.
@@ -13,6 +14,9 @@ const PAUSE: u64 = 1;
 
 /// The length up to which the name of a file is told, so that the line fits in a row of the terminal.
 const LONGEST_NAME: usize = 40;
+
+/// So many of the last bytes that were read are kept, to be looked at again before more are.
+const TAIL: usize = 64;
 
 /// The line of standard error that tells how far a reading is. Errors of standard error are ignored.
 #[derive(Drop)]
@@ -90,14 +94,50 @@ struct Extent<'a> {
     progress: &'a ProgressLine<'a>,
     name: String,
     bytes: u64,
-    // Whether it was told that the file is shorter.
+    // The last bytes that were read, as many as are kept.
+    tail: [u8; TAIL],
+    kept: usize,
+    // Whether the last read found no more.
+    is_at_end: bool,
+    // Whether it was told that the file is shorter, or holds other bytes.
     is_cut: bool,
+    is_changed: bool,
 }
 
 impl<'a> Extent<'a> {
     /// Counts bytes that were read.
-    fn add(&mut self, count: usize) {
-        self.bytes = self.bytes.saturating_add(count as u64);
+    fn add(&mut self, read: &[u8]) {
+        self.bytes = self.bytes.saturating_add(read.len() as u64);
+        self.kept = read.len().min(TAIL);
+        for (kept, byte) in self.tail.iter_mut().zip(&read[read.len() - self.kept..]) {
+            *kept = *byte;
+        }
+    }
+
+    /// Tells once that the file holds other bytes where the last ones were read, before more are read behind them, if it does.
+    fn tell_if_changed<F: Reread>(&mut self, file: &F) {
+        if !self.is_at_end || self.is_changed {
+            return;
+        }
+        let mut now = [0; TAIL];
+        let from = self.bytes.saturating_sub(self.kept as u64);
+        let is_whole = file
+            .bytes_at(from, &mut now)
+            .is_some_and(|found| found >= self.kept);
+        let is_same = now
+            .iter()
+            .zip(&self.tail)
+            .take(self.kept)
+            .all(|(now, read)| now == read);
+        if is_same || !is_whole {
+            return;
+        }
+        self.is_changed = true;
+        self.progress.wipe();
+        let name = self.name.as_str();
+        let _is_told = eprintln!(self.progress.runtime;
+            "lincheck: {name}: the bytes that were read of it have changed"
+        );
     }
 
     /// Tells once that the file, which gives no more bytes and is so long, is shorter than what was read of it, if it is.
@@ -115,13 +155,16 @@ impl<'a> Extent<'a> {
     }
 }
 
-/// What tells how long it is.
-pub trait HasLength {
+/// What can be asked beside its reading.
+pub trait Reread {
     /// How many bytes it has, if it is a plain file.
     fn length(&self) -> Option<u64>;
+
+    /// Puts the bytes that it has from a place on into the list, and tells how many, if they can be read there.
+    fn bytes_at(&self, place: u64, bytes: &mut [u8]) -> Option<usize>;
 }
 
-impl HasLength for File {
+impl Reread for File {
     fn length(&self) -> Option<u64> {
         let found = self.metadata().ok()?;
         if found.is_file() {
@@ -129,6 +172,10 @@ impl HasLength for File {
         } else {
             None
         }
+    }
+
+    fn bytes_at(&self, place: u64, bytes: &mut [u8]) -> Option<usize> {
+        self.read_at(bytes, place).ok()
     }
 }
 
@@ -164,7 +211,11 @@ fn extent_of<'a>(progress: &'a ProgressLine<'a>, name: &str) -> Option<Extent<'a
         progress,
         name: String::from_str(progress.runtime.alloc(), name).ok()?,
         bytes: 0,
+        tail: [0; TAIL],
+        kept: 0,
+        is_at_end: false,
         is_cut: false,
+        is_changed: false,
     })
 }
 
@@ -180,13 +231,16 @@ fn watch_of<'a>(progress: &'a ProgressLine<'a>, name: &str) -> Option<Watch<'a>>
     })
 }
 
-impl<'a, F: Read + HasLength> Read for Watched<'a, F> {
+impl<'a, F: Read + Reread> Read for Watched<'a, F> {
     ghost remaining = { λ w. F.remaining (w.file) };
 
     fn read(&mut self, buf: &mut [u8]) -> io::Result<usize>
         ensures bound { ReadsAtMost result buf.new }
         ensures bytes { ReadConsumes (F.remaining (self.old.file)) (F.remaining (self.new.file)) result buf.new }
     {
+        if let Some(extent) = &mut self.extent {
+            extent.tell_if_changed(&self.file);
+        }
         let outcome = self.file.read(buf);
         if let Some(watch) = &mut self.watch {
             match &outcome {
@@ -195,10 +249,11 @@ impl<'a, F: Read + HasLength> Read for Watched<'a, F> {
             }
         }
         if let (Ok(count), Some(extent)) = (&outcome, &mut self.extent) {
-            match *count {
-                0 => extent.tell_if_cut(self.file.length()),
-                count => extent.add(count),
+            match buf.get(..*count) {
+                Some(read) if *count > 0 => extent.add(read),
+                _ => extent.tell_if_cut(self.file.length()),
             }
+            extent.is_at_end = *count == 0;
         }
         outcome
     }
