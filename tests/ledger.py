@@ -79,11 +79,13 @@ fn around() {
 '''
 PARTS = '''ghost use Rattle.std.specs.Prelude.{◌≤◌, ℕ};
 ghost use Rattle.low.specs.Third.{Third};
+ghost use Rattle.low.specs.inner.Fifth.{Fifth};
+ghost use Rattle.low.specs.inner.Sixth.{Sixth};
 
 use crate::halves::Half;
 
 /// A half of it.
-pub fn half(whole: Half) -> u64
+pub fn half(whole: Half, by: Sized) -> u64
     ensures { result ≤ 1 }
 {
     third(whole)
@@ -92,12 +94,48 @@ pub fn half(whole: Half) -> u64
 /// A third of it.
 #[inline]
 pub fn third(whole: Half) -> u64
-    ensures { Third result × (result ≤ 3) }
+    ensures { Third result × Sixth result × (result ≤ 3) }
 {
     0
 }
 
+/// What is counted here alone.
+#[derive(Clone, Copy)]
+pub(crate) enum Part {
+    Whole,
+    Rest(u8),
+}
+
+#[derive(Clone, Copy)]
+pub(crate) struct Count {
+    part: Part,
+}
+
+fn count(whole: Count) -> u8 {
+    9
+}
+
+#[derive(Clone, Copy)]
+pub(crate) struct Width {
+    of: u8,
+}
+
+pub(crate) struct Sized {
+    width: Width,
+}
+
+impl Sized {
+    fn seventh(&self) -> u64
+        ensures { Fifth result }
+    {
+        0
+    }
+}
+
+const MOST_OF_ALL: u8 = 120;
+
 impl Half {
+    #[inline]
     fn fourth(&self) -> u64
         ensures { result ≤ 5 }
     {
@@ -115,6 +153,10 @@ FILES = {
     'crates/low/src/parts.rt': PARTS,
     'crates/low/src/names.rt': 'pub const NAMES: &str = "\n// 1\n";\n',
     'crates/low/specs/Lesser.antt': 'lesser = 1\n',
+    'crates/low/specs/inner.antt': 'pub mod Fifth\npub mod Sixth\n',
+    'crates/low/specs/inner/Fifth.antt': 'use Rattle.low.specs.inner.Fourth.{fourth}\nfifth = 1\n',
+    'crates/low/specs/inner/Fourth.antt': 'fourth = 1\n',
+    'crates/low/specs/inner/Sixth.antt': 'sixth = 1\n',
     'crates/low/specs/lemmas/Least.antt': 'least = 1\n',
     'crates/low/proofs/lesser/Answers.antt': 'answer = 1\n',
     'crates/low/wrong-bodies/the_greater_one.edit': 'file: src/lib.rt\nold: a < b\nnew: b < a\n',
@@ -157,6 +199,13 @@ CHANGES = [
     ('a type in its head', 'crates/low/src/parts.rt', 'halves::Half', 'thirds::Half', BOTH),
     ('a contract of one there that is not', 'crates/low/src/parts.rt', 'result ≤ 3', 'result ≤ 4', {BELOW}),
     ('an import of that alone', 'crates/low/src/parts.rt', 'specs.Third.', 'specs.Fourth.', {BELOW}),
+    ('a type that private functions alone name', 'crates/low/src/parts.rt', 'Rest(u8)', 'Rest(u16)', {BELOW}),
+    ('a private type that a method goes by', 'crates/low/src/parts.rt', 'of: u8', 'of: u16', BOTH),
+    ('inner specs that a method cites', 'crates/low/specs/inner/Fifth.antt', '1', '2', BOTH),
+    ('inner specs that those cite', 'crates/low/specs/inner/Fourth.antt', '1', '2', BOTH),
+    ('inner specs that a private function cites', 'crates/low/specs/inner/Sixth.antt', '1', '2', {BELOW}),
+    ('a constant there that nothing names', 'crates/low/src/parts.rt', '= 120', '= 121', {BELOW}),
+    ('whether one is inlined', 'crates/low/src/parts.rt', '    #[inline]', '    #[inline(never)]', {BELOW}),
     ('a method there', 'crates/low/src/parts.rt', 'result ≤ 5', 'result ≤ 6', BOTH),
     ('a plain body below', 'crates/low/src/lib.rt', 'if a < b { a } else { b }', 'let c = b;\n    if a < c { a } else { c }', {BELOW}),
     ('the body of a method below', 'crates/low/src/lib.rt', '        self.left\n', '        self.left + 0\n', {BELOW}),
@@ -250,7 +299,9 @@ def try_keys(toy, right):
         right('%s changes %s' % (what, ', '.join(sorted(wanted)) or 'no key'), text.count(old) == 1 and changed(before, toy.keys()) == wanted)
         toy.write(path, text)
     toy.write('crates/low/src/more.rt', 'pub fn more() {}\n')
-    right('a new file below changes both keys', changed(before, toy.keys()) == BOTH)
+    right('a new file below of which nothing is handed on changes one key', changed(before, toy.keys()) == {BELOW})
+    toy.write('crates/low/src/more.rt', 'impl Pair {\n    pub fn more(&self) {}\n}\n')
+    right('a new file below with a method changes both keys', changed(before, toy.keys()) == BOTH)
     os.remove(toy.root + '/crates/low/src/more.rt')
     right("the kit's line changes both keys", changed(before, toy.keys(('kit 2', PROVER[1]))) == BOTH)
     for line, is_one in (must_fail.KIT, True), (must_fail.KIT.replace('kit-', 'kit-9'), True), (must_fail.KIT + '0', False), ('', False):

@@ -64,9 +64,9 @@ class Keys:
     """The keys of a repository's edits: a sum of all that an edit's check reads, by the texts alone.
 
     It reads the edit, its crate, the prover, and of each crate below, through all levels, the line of crates.txt, specs/ and what src/ is
-    without the bodies of plain functions, by whose contracts callers are judged, and without plain functions that lib.rt doesn't hand on,
-    which nothing above can call. tests/imports.py keeps proofs/ from the crates above, but those of ROOMS. tests/trials.py makes the checks
-    and judges them.
+    without the bodies of plain functions, by whose contracts callers are judged, and without what nothing above can reach: plain functions
+    that lib.rt doesn't hand on, types that are named by these alone, and of specs/inner/ what these alone cite. tests/imports.py keeps
+    proofs/ and specs/inner/ from the crates above, but the proofs of ROOMS. tests/trials.py makes the checks and judges them.
     """
 
     def __init__(self, root, prover):
@@ -98,10 +98,10 @@ class Keys:
 
     @functools.lru_cache(None)
     def from_above(self, crate):
-        files = self.texts(crate, 'src')
-        handed = handed_on(dict(files).get('src/lib.rt', b'').decode())
-        source = [(path, seen_above(path, it.decode(), handed) if path.endswith('.rt') else it) for path, it in files]
-        return sum_of(self.lines[crate], source, self.texts(crate, 'specs'), self.texts(crate, 'proofs') if crate in imports.ROOMS else [])
+        source = {path: it.decode(errors='surrogateescape') for path, it in self.texts(crate, 'src')}
+        specs = {path: it.decode(errors='surrogateescape') for path, it in self.texts(crate, 'specs')}
+        seen = seen_above(source, specs)
+        return sum_of(self.lines[crate], sorted(seen.items()), self.texts(crate, 'proofs') if crate in imports.ROOMS else [])
 
     @functools.lru_cache(None)
     def below(self, crate):
@@ -116,27 +116,81 @@ class Keys:
 
 def handed_on(text):
     """The names that a lib.rt hands on; None where it may hand on what it doesn't name."""
-    uses = re.findall(r'^pub use ([^;]*);', text, re.M)
-    if re.search(r'^ *pub(?:\([\w: ]+\))? mod\b|macro_export', text, re.M) or any('*' in it for it in uses):
+    uses = re.findall(r'^pub (?:use ([^;]*);|(?:struct|enum|trait|type|const|static) (\w+))', text, re.M)
+    if re.search(r'^ *pub(?:\([\w: ]+\))? mod\b|macro_export', text, re.M) or any('*' in it for it, _ in uses):
         return None
-    return {name for it in uses for name in re.findall(r'\w+', it)}
+    return {name for use, own in uses for name in re.findall(r'\w+', use or own)}
 
 
-def seen_above(path, text, handed):
-    """What crates above read of a file: it without bodies, and without free functions that aren't handed on, and what these alone import."""
+def without_hidden(path, text, handed):
+    """A file without bodies, and without free functions that aren't handed on."""
     if handed is None or 'macro_rules!' in text:
         return trials.without_bodies(text)
     for it in reversed(trials.functions_of(text, '')):
         is_hidden = it.name not in handed and not (path == 'src/lib.rt' and it.text.startswith('pub '))
         if is_hidden and it.owner is None and not it.module and not trials.is_read_above(it):
-            above = re.search(r'(?:^ *(?:#\[|//).*\n)*\Z', text[:it.start], re.M)
-            text = text[:above.start()] + text[it.end:]
-    text = trials.without_bodies(text)
-    rest = re.sub(IMPORT, '', text)
-    return re.sub(IMPORT, lambda it: used_imports(it, rest), text)
+            text = text[:begin_of(text, it.start)] + text[it.end:]
+    return trials.without_bodies(text)
 
 
-IMPORT = re.compile(r'^(?:ghost )?use ([\w.:]*?)(?:\{([^{}]*)\}|(\w+));\n', re.M)
+def begin_of(text, at):
+    """Where the remarks and attributes of an item begin."""
+    return re.search(r'(?:^ *(?:#\[|//).*\n)*\Z', text[:at], re.M).start()
+
+
+def seen_above(source, specs):
+    """What crates above read of a crate's files: no bodies, no free functions that aren't handed on, no types and constants that only these name,
+    no inner specs that only these cite, no imports of what isn't named then, and no word on what is inlined."""
+    handed = handed_on(source.get('src/lib.rt', ''))
+    seen = {path: without_hidden(path, it, handed) if path.endswith('.rt') else it for path, it in source.items()}
+    inner = {path for path in specs if path.startswith('specs/inner/')}
+    open_specs = {path: it for path, it in specs.items() if path not in inner}
+    if handed is not None:
+        drop_types(seen, [it for at, it in open_specs.items() if at != 'specs/inner.antt'], handed)
+    for path, text in seen.items():
+        if path.endswith('.rt'):
+            rest = re.sub(IMPORT, '', text)
+            seen[path] = re.sub(UNSEEN, '', re.sub(IMPORT, lambda it, rest=rest: used_imports(it, rest), text))
+    seen = {path: it for path, it in seen.items() if it.strip()}
+    seen.update(open_specs)
+    cited = True
+    while cited:
+        whole = '\n'.join(seen.values())
+        cited = {it for it in inner - {*seen} if '.specs.inner.%s' % it[len('specs/inner/'):].split('.')[0].split('/')[0] in whole}
+        seen.update((it, specs[it]) for it in cited)
+    return seen
+
+
+def drop_types(seen, specs, handed):
+    """Drops the types and constants of a crate's files, with their impls, that neither lib.rt nor anything that is left names."""
+    items = {path: items_of(it) for path, it in seen.items() if path.endswith('.rt')}
+    types = {of for found in items.values() for of, is_type, _ in found if is_type}
+    named, more = set(), handed & types
+    while more:
+        named |= more
+        left = [text for found in items.values() for of, _, text in found if of not in types - named]
+        words = {*re.findall(r'\w+', re.sub(IMPORT, '', '\n'.join([*left, *specs])))}
+        more = (types & words) - named
+    for path, found in items.items():
+        seen[path] = ''.join(text for of, _, text in found if of not in types - named)
+
+
+def items_of(text):
+    """The items of a file, one behind the other: the type or constant that each is, or has functions of, if it is such, whether it is one, and its
+    text."""
+    starts = [it.start() for it in re.finditer(r'^(?![\s})\]]|//|#\[)', text, re.M)]
+    begins = [begin_of(text, it) for it in starts]
+    found = [] if not begins or begins[0] == 0 else [(None, False, text[:begins[0]])]
+    for at, begin, end in zip(starts, begins, [*begins[1:], len(text)]):
+        item = re.match(r'(?:pub(?:\([\w: ]+\))? )?(?:(struct|enum|const|static) (\w+)|impl\b([^{]*)\{)', text[at:end])
+        owner = trials.owner_of(item[3]) if item and item[3] else None
+        of = item[2] or (owner[0] if isinstance(owner, tuple) else owner) if item else None
+        found.append((of, bool(item and item[2]), text[begin:end]))
+    return found
+
+
+IMPORT = re.compile(r'^(?:ghost )?use ([\w.:]*?)(?:\{([^{}]*)\}|(\w+(?: as \w+)?));\n', re.M)
+UNSEEN = re.compile(r'^mod \w+;\n|^ *#\[inline[^\n]*\]\n', re.M)
 
 
 def used_imports(found, rest):
