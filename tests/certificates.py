@@ -7,6 +7,7 @@ from edits import START, Event, operations, steps
 
 NOUNS = {'register': 'register', 'cas-register': 'register', 'fifo': 'queue', 'set': 'set', 'mutex': 'lock', 'unordered-queue': 'queue'}
 MOST_LISTED, MOST_ITEMS = 3, 8
+FAIL_HINT = 'a call that may have taken effect, as one that timed out, is recorded as :info, not :fail'
 
 
 # the words
@@ -364,8 +365,12 @@ class Lines:
         self.put('  %s', self.returned(op))
         for other in failed[:3]:
             self.put('  %s', self.failed(other))
-        if not failed:
-            self.put('  %s', none)
+        self.behind_failed(failed, none)
+
+    def behind_failed(self, failed, none):
+        """What a fail claims, or the other line, if there is one, where nothing failed."""
+        if failed or none:
+            self.put('  %s', FAIL_HINT if failed else none)
 
     def sides(self, why, did, can, failed):
         """What was done more often than it can have been."""
@@ -413,7 +418,9 @@ class Lines:
         self.sides(why + ', beside the beginning' * (v is None), spenders(self.ops, v), those_that_leave(self.ops, v), failed)
 
     def taken(self, v):
-        self.sides('why: %d was taken out %%s and put in at most %%s' % v, taken_by(self.ops, v), puts(self.ops, 'enqueue', v), self.failed_to('enqueue', v))
+        added, failed = puts(self.ops, 'enqueue', v), self.failed_to('enqueue', v)
+        self.sides('why: %d was taken out %%s and put in at most %%s' % v, taken_by(self.ops, v), added, failed)
+        self.behind_failed(failed, None)
 
     def passed(self, d, i, v, w):
         took = taken_by(self.ops, v)

@@ -4,7 +4,7 @@ import json
 import re
 
 from certificates import (
-    MOST_ITEMS, MOST_LISTED, NOUNS, OTHER, certificates, event_words, failed_within, is_counted, is_crossed, is_inside, is_late, is_lost, is_overwriting,
+    FAIL_HINT, MOST_ITEMS, MOST_LISTED, NOUNS, OTHER, certificates, event_words, failed_within, is_counted, is_crossed, is_inside, is_late, is_lost, is_overwriting,
     is_overwritten, is_passed, is_preceded, is_remaining, is_spent, is_split, is_stale, is_surplus, is_taken, is_twice, is_unadded, is_unwritten, is_within, items_words,
     made_within, may_be_within, may_take_ahead, operations_of, others_that_leave, put_before, puts, rank, reply_words, spenders, state_words, tails,
     taken_before, taken_by, those_that_leave, times, value_words, wanted_form)
@@ -247,11 +247,10 @@ class Judge:
             raise Wrong('these aren\'t the first %d of %s: %s' % (most, [o.words() for o in ops], [o.words() for o in found]))
 
     def failed_ones(self, told, ops, none):
-        """That nothing else does it, or those that failed."""
-        if not ops:
-            told.want('  ' + none)
-            return
-        self.are_first([self.one_of(told.match(r'  (.+)')[1], 'failed') for _ in ops[:3]], ops)
+        """That nothing else does it, or those that failed, and what a fail claims."""
+        if ops:
+            self.are_first([self.one_of(told.match(r'  (.+)')[1], 'failed') for _ in ops[:3]], ops)
+        told.want('  ' + (FAIL_HINT if ops else none))
 
     def certificate(self, told, kind, ops):
         """Reads the lines of a certificate, and gives its form, or None where there is none."""
@@ -352,7 +351,10 @@ class Judge:
         took, added = taken_by(ops, value), puts(ops, 'enqueue', value)
         self.listed(told, took, 'returned')
         self.listed(told, added, 'called')
-        self.listed(told, [o for o in ops if o.how == 'failed' and o.does('enqueue', value)], 'failed')
+        failed = [o for o in ops if o.how == 'failed' and o.does('enqueue', value)]
+        self.listed(told, failed, 'failed')
+        if failed:
+            told.want('  ' + FAIL_HINT)
         return kind in ('fifo', 'unordered-queue') and is_taken(ops, value) and (out, put) == (times(len(took)), times(len(added)))
 
     def passed(self, told, kind, ops, by, value):

@@ -10,7 +10,7 @@ use Rattle.lin_events.specs.declared.calls.Val.{Val}
 use Rattle.lin_events.specs.declared.calls.Val.TheVariants.{Nil, Item as Held}
 use Rattle.lin_tables.specs.Operations.{name_text}
 use Rattle.lin_tables.specs.Values.{short_item_text, value_text}
-use Rattle.lin_certificate_lines.specs.Series.{fact_text, failures_text, sides_text, times_text}
+use Rattle.lin_certificate_lines.specs.Series.{behind_failed, fact_text, failures_text, sides_text, times_text}
 use Rattle.lin_certificate_lines.specs.Telling.{call_in, called_text, end_spot, had_text, in_turn_text, is_acquire, reply_at, returned_text}
 use Rattle.lin_certificate_lines.specs.declared.told.ObjectEvents.{ObjectEvents}
 use Rattle.lin_certificate_lines.specs.declared.told.Verb.TheVariants.{Returned}
@@ -85,7 +85,7 @@ crossed_text told v w pair back = codes "why: crossed values " ++ value_text tol
 -- the item was taken out oftener than it was put in
 abbrev pub taken_text : ObjectEvents → Item → List ℕ → List ℕ → List ℕ → List ℕ
 taken_text told n done may failed = codes "why: " ++ short_item_text told.names.now n ++ codes " was taken out " ++ times_text (length done)
-    ++ codes " and put in at most " ++ times_text (length may) ++ codes "\n" ++ sides_text told done may failed
+    ++ codes " and put in at most " ++ times_text (length may) ++ codes "\n" ++ sides_text told done may failed ++ behind_failed [] failed
 
 -- the one returned before the other was called
 abbrev pub turn_text : ObjectEvents → List ℕ → ℕ → ℕ → List ℕ

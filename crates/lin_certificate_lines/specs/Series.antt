@@ -29,6 +29,14 @@ facts_text told verb list = if nat_eq (length list) 0 then []
 abbrev pub sides_text : ObjectEvents → List ℕ → List ℕ → List ℕ → List ℕ
 sides_text told done may failed = facts_text told Returned done ++ facts_text told Called may ++ facts_text told Failed failed
 
--- a line for each of those that failed, or that there is none
+-- what a fail claims, for who recorded one of a call that may have taken effect
+abbrev pub fail_hint : List ℕ
+fail_hint = codes "  a call that may have taken effect, as one that timed out, is recorded as :info, not :fail\n"
+
+-- what stands behind those that failed; the other text where none did
+abbrev pub behind_failed : List ℕ → List ℕ → List ℕ
+behind_failed none failed = if nat_eq (length failed) 0 then none else fail_hint
+
+-- a line for each of those that failed, and what a fail claims, or that there is none
 abbrev pub failures_text : ObjectEvents → List ℕ → List ℕ → List ℕ
-failures_text told none failed = if nat_eq (length failed) 0 then none else flat_map (fact_text told Failed) (firsts failed)
+failures_text told none failed = flat_map (fact_text told Failed) (firsts failed) ++ behind_failed none failed

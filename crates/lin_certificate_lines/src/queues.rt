@@ -8,7 +8,7 @@ use crate::groups::{CallGroup, Group, ReplyGroup};
 use crate::listing::all_of;
 use crate::naming::{name_pair, name_some};
 use crate::registers::put_register_reason;
-use crate::series::put_how_often;
+use crate::series::{put_behind_failed, put_how_often};
 use crate::sides::{Sides, name_sides, put_sides, sides_of};
 use crate::told::{ObjectEvents, put_in_turn, put_returned};
 use lin_certificates::Certificate;
@@ -49,6 +49,7 @@ fn put_taken_lines(
     put_how_often(text, sides.may.as_slice())?;
     text.push(b'\n')?;
     put_sides(text, told, sides)?;
+    put_behind_failed(text, b"", sides.failed.as_slice())?;
     Ok(())
 }
 

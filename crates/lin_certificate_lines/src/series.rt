@@ -1,7 +1,7 @@
 //! Several operations in words: the first of them, and how many more there are.
 ghost use Rattle.std.specs.Prelude.{◌≡◌, ◌++◌, codes, length, OnOk, take};
 ghost use Rattle.std.specs.List.{flat_map, join_by};
-ghost use Rattle.lin_certificate_lines.specs.Series.{fact_text, facts_text, failures_text, more_text, times_text};
+ghost use Rattle.lin_certificate_lines.specs.Series.{behind_failed, fact_text, facts_text, failures_text, more_text, times_text};
 ghost use Rattle.lin_certificate_lines.specs.Telling.{did_text};
 ghost use Rattle.lin_certificate_lines.specs.declared.told.Verb.TheVariants.{Failed};
 
@@ -121,7 +121,23 @@ fn put_each_failed(
     Ok(())
 }
 
-/// Puts a line last for each of the first of these operations, which failed, or the line that there is none.
+/// Puts the line last of what a fail claims, or the other text where no operation failed.
+pub(crate) fn put_behind_failed(
+    text: &mut Vec<u8>,
+    none: &[u8],
+    failed: &[usize],
+) -> Result<(), AllocError>
+    ensures { OnOk result (text.new.items ≡ text.old.items ++ behind_failed none.now failed.now) }
+{
+    if failed.len() == 0 {
+        return text.extend_from_slice(none);
+    }
+    text.extend_from_slice(
+        b"  a call that may have taken effect, as one that timed out, is recorded as :info, not :fail\n",
+    )
+}
+
+/// Puts a line last for each of the first of these operations, which failed, and what a fail claims; or the line that there is none.
 pub(crate) fn put_failures(
     text: &mut Vec<u8>,
     told: &ObjectEvents,
@@ -130,8 +146,6 @@ pub(crate) fn put_failures(
 ) -> Result<(), AllocError>
     ensures { OnOk result (text.new.items ≡ text.old.items ++ failures_text told.now none.now failed.now) }
 {
-    if failed.len() == 0 {
-        return text.extend_from_slice(none);
-    }
-    put_each_failed(text, told, firsts_of(failed, FIRSTS))
+    put_each_failed(text, told, firsts_of(failed, FIRSTS))?;
+    put_behind_failed(text, none, failed)
 }
