@@ -7,8 +7,8 @@ use lin_events::{Call, Item, Val};
 /// The value that a register was taken from to another one, by an operation that is ok, or that it would have come to by one that failed.
 fn spent_value(target: &Operation) -> Option<Val> {
     match target.ending {
-        Ending::Returned(_, _) => target.spent(),
-        Ending::Failed => target.left(),
+        Ending::Returned(_, _) => target.value_spent(),
+        Ending::Failed => target.value_left(),
         Ending::Open => None,
     }
 }
@@ -18,10 +18,10 @@ fn is_spent(operations: &[Operation], value: Val) -> bool {
     let mut comes: usize = 0;
     let mut goes: usize = 0;
     for operation in operations {
-        if operation.left() == Some(value) && operation.counts() {
+        if operation.value_left() == Some(value) && operation.counts() {
             comes = comes.saturating_add(1);
         }
-        if operation.returned().is_some() && operation.spent() == Some(value) {
+        if operation.ok_end().is_some() && operation.value_spent() == Some(value) {
             goes = goes.saturating_add(1);
         }
     }
@@ -32,7 +32,7 @@ fn is_spent(operations: &[Operation], value: Val) -> bool {
 }
 
 /// A value that a register was taken from too often.
-pub fn spent(operations: &[Operation], target: &Operation) -> Option<Certificate> {
+pub fn spent_candidate(operations: &[Operation], target: &Operation) -> Option<Certificate> {
     let value = spent_value(target)?;
     if !is_spent(operations, value) {
         return None;
@@ -68,9 +68,9 @@ fn is_surplus(operations: &[Operation], target: &Operation, end: usize, place: u
     let mut puts: usize = 0;
     let mut takes: usize = 0;
     for operation in operations {
-        if let Some((put, _)) = operation.returned()
+        if let Some((put, _)) = operation.ok_end()
             && put < place
-            && operation.added().is_some()
+            && operation.item_added().is_some()
         {
             puts = puts.saturating_add(1);
         }
@@ -82,8 +82,8 @@ fn is_surplus(operations: &[Operation], target: &Operation, end: usize, place: u
 }
 
 /// A dequeue that found nothing though items remained.
-pub fn remaining(operations: &[Operation], target: &Operation) -> Option<Certificate> {
-    let (end, _) = target.returned()?;
+pub fn remaining_candidate(operations: &[Operation], target: &Operation) -> Option<Certificate> {
+    let (end, _) = target.ok_end()?;
     if !is_surplus(operations, target, end, target.at) {
         return None;
     }
@@ -94,9 +94,9 @@ pub fn remaining(operations: &[Operation], target: &Operation) -> Option<Certifi
 fn times_out(operations: &[Operation], item: Item, place: usize) -> usize {
     let mut times: usize = 0;
     for operation in operations {
-        if let Some((end, _)) = operation.returned()
+        if let Some((end, _)) = operation.ok_end()
             && end < place
-            && operation.taken() == Some(item)
+            && operation.item_taken() == Some(item)
         {
             times = times.saturating_add(1);
         }
@@ -108,7 +108,7 @@ fn times_out(operations: &[Operation], item: Item, place: usize) -> usize {
 fn put_behind(operations: &[Operation], item: Item, times: usize) -> Option<usize> {
     let mut seen: usize = 0;
     for operation in operations {
-        if operation.added() == Some(item) && operation.counts() {
+        if operation.item_added() == Some(item) && operation.counts() {
             if seen == times {
                 return Some(operation.at);
             }
@@ -119,9 +119,9 @@ fn put_behind(operations: &[Operation], item: Item, times: usize) -> Option<usiz
 }
 
 /// A dequeue of an item ahead of which too many were put in.
-pub fn preceded(operations: &[Operation], target: &Operation) -> Option<Certificate> {
-    let item = target.taken()?;
-    let (end, _) = target.returned()?;
+pub fn preceded_candidate(operations: &[Operation], target: &Operation) -> Option<Certificate> {
+    let item = target.item_taken()?;
+    let (end, _) = target.ok_end()?;
     if !is_surplus(operations, target, end, end) {
         return None;
     }

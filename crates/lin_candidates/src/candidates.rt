@@ -1,8 +1,8 @@
 //! Certificates that may hold of operations: of each form the one that is wanted most. None is promised to hold.
-use crate::balances::{is_spender_named, preceded, remaining, spent};
-use crate::crossings::crossed;
+use crate::balances::{is_spender_named, preceded_candidate, remaining_candidate, spent_candidate};
+use crate::crossings::crossed_candidate;
 use crate::endings::{Ending, Operation};
-use crate::within::within;
+use crate::within::within_candidate;
 use lin_certificates::Certificate;
 use lin_events::{Call, Item, OutOfMemory, Val};
 use lin_objects::Kind;
@@ -56,8 +56,8 @@ pub const FORMS: [Form; 17] = [
 ];
 
 /// A value that nothing else may leave, of an operation that needs it.
-fn unwritten(target: &Operation) -> Option<Certificate> {
-    match target.needed()? {
+fn unwritten_candidate(target: &Operation) -> Option<Certificate> {
+    match target.value_needed()? {
         Val::Nil => None,
         Val::Item(item) => Some(Certificate::Unwritten {
             operation: target.at,
@@ -67,8 +67,8 @@ fn unwritten(target: &Operation) -> Option<Certificate> {
 }
 
 /// A value that may be overwritten, of an operation that needs it.
-fn overwritten(target: &Operation) -> Option<Certificate> {
-    let value = target.needed()?;
+fn overwritten_candidate(target: &Operation) -> Option<Certificate> {
+    let value = target.value_needed()?;
     Some(Certificate::Overwritten {
         operation: target.at,
         value,
@@ -86,10 +86,10 @@ fn of_register(
         Form::Shape if target.members().is_some() => Ok(Some(Certificate::Shape {
             read: target.at,
         })),
-        Form::Unwritten => Ok(unwritten(target)),
-        Form::Overwritten => Ok(overwritten(target)),
-        Form::Crossed => crossed(alloc, operations, target),
-        Form::Spent => Ok(spent(operations, target)),
+        Form::Unwritten => Ok(unwritten_candidate(target)),
+        Form::Overwritten => Ok(overwritten_candidate(target)),
+        Form::Crossed => crossed_candidate(alloc, operations, target),
+        Form::Spent => Ok(spent_candidate(operations, target)),
         _ => Ok(None),
     }
 }
@@ -120,14 +120,14 @@ fn items_known(
 ) -> Result<HashMap<Item, Queued>, OutOfMemory> {
     let mut known: HashMap<Item, Queued> = HashMap::new(alloc);
     for operation in operations {
-        if let Some(item) = operation.added()
+        if let Some(item) = operation.item_added()
             && operation.counts()
         {
             let mut about = known.get(&item).copied().unwrap_or(Queued::new());
             about.puts = about.puts.saturating_add(1);
             known.insert(item, about)?;
         }
-        if let Some(item) = operation.taken()
+        if let Some(item) = operation.item_taken()
             && operation.at != target
         {
             let mut about = known.get(&item).copied().unwrap_or(Queued::new());
@@ -163,22 +163,22 @@ fn may_stay(known: &HashMap<Item, Queued>, item: Item, end: usize, is_open: bool
 }
 
 /// The last enqueue that returned before the place, of an item that may stay until the dequeue, which returned at `end`.
-fn staying(
+fn item_that_stays(
     alloc: Global,
     operations: &[Operation],
     target: &Operation,
     place: usize,
 ) -> Result<Option<(usize, Item)>, OutOfMemory> {
-    let Some((end, _)) = target.returned() else {
+    let Some((end, _)) = target.ok_end() else {
         return Ok(None);
     };
     let known = items_known(alloc, operations, target.at)?;
     let is_open = is_one_open(operations, target.at, end);
     for operation in operations.iter().rev() {
-        if let Some(item) = operation.added()
-            && let Some((put, _)) = operation.returned()
+        if let Some(item) = operation.item_added()
+            && let Some((put, _)) = operation.ok_end()
             && put < place
-            && target.taken() != Some(item)
+            && target.item_taken() != Some(item)
             && may_stay(&known, item, end, is_open)
         {
             return Ok(Some((operation.at, item)));
@@ -190,7 +190,7 @@ fn staying(
 /// The first enqueue of the item that isn't failed.
 fn first_put(operations: &[Operation], item: Item) -> Option<usize> {
     for operation in operations {
-        if operation.added() == Some(item) && operation.counts() {
+        if operation.item_added() == Some(item) && operation.counts() {
             return Some(operation.at);
         }
     }
@@ -198,18 +198,18 @@ fn first_put(operations: &[Operation], item: Item) -> Option<usize> {
 }
 
 /// The item that the dequeue took may have passed another one, which was put in last.
-fn passed(
+fn passed_candidate(
     alloc: Global,
     operations: &[Operation],
     target: &Operation,
 ) -> Result<Option<Certificate>, OutOfMemory> {
-    let Some(other) = target.taken() else {
+    let Some(other) = target.item_taken() else {
         return Ok(None);
     };
     let Some(later) = first_put(operations, other) else {
         return Ok(None);
     };
-    let Some((enqueue, item)) = staying(alloc, operations, target, later)? else {
+    let Some((enqueue, item)) = item_that_stays(alloc, operations, target, later)? else {
         return Ok(None);
     };
     Ok(Some(Certificate::Passed {
@@ -226,9 +226,9 @@ fn only_put(operations: &[Operation], item: Item) -> Option<(usize, usize)> {
     let mut puts: usize = 0;
     let mut found = None;
     for operation in operations {
-        if operation.added() == Some(item) && operation.counts() {
+        if operation.item_added() == Some(item) && operation.counts() {
             puts = puts.saturating_add(1);
-            if let Some((end, _)) = operation.returned() {
+            if let Some((end, _)) = operation.ok_end() {
                 found = Some((operation.at, end));
             }
         }
@@ -247,9 +247,9 @@ fn taken_ahead(
     end: usize,
 ) -> Option<(usize, usize, Item)> {
     for operation in operations.iter().rev() {
-        if let Some((returned, _)) = operation.returned()
+        if let Some((returned, _)) = operation.ok_end()
             && returned < place
-            && let Some(item) = operation.taken()
+            && let Some(item) = operation.item_taken()
             && let Some(put) = first.get(&item).copied()
             && end < put
         {
@@ -260,12 +260,12 @@ fn taken_ahead(
 }
 
 /// The item that the dequeue took may have been passed by another one.
-fn overtaken(
+fn overtaken_candidate(
     alloc: Global,
     operations: &[Operation],
     target: &Operation,
 ) -> Result<Option<Certificate>, OutOfMemory> {
-    let Some(item) = target.taken() else {
+    let Some(item) = target.item_taken() else {
         return Ok(None);
     };
     let Some((enqueue, end)) = only_put(operations, item) else {
@@ -285,12 +285,12 @@ fn overtaken(
 }
 
 /// The dequeue may have found nothing though an item was inside.
-fn inside(
+fn inside_candidate(
     alloc: Global,
     operations: &[Operation],
     target: &Operation,
 ) -> Result<Option<Certificate>, OutOfMemory> {
-    match staying(alloc, operations, target, target.at)? {
+    match item_that_stays(alloc, operations, target, target.at)? {
         Some((enqueue, item)) => Ok(Some(Certificate::Inside {
             enqueue,
             dequeue: target.at,
@@ -301,8 +301,8 @@ fn inside(
 }
 
 /// An item that may have been taken out too often.
-fn taken(target: &Operation) -> Option<Certificate> {
-    let item = target.taken().or(target.added())?;
+fn taken_candidate(target: &Operation) -> Option<Certificate> {
+    let item = target.item_taken().or(target.item_added())?;
     Some(Certificate::Taken { item })
 }
 
@@ -314,9 +314,9 @@ fn of_bag(
     target: &Operation,
 ) -> Result<Option<Certificate>, OutOfMemory> {
     match form {
-        Form::Taken => Ok(taken(target)),
-        Form::Inside if target.found_nothing() => inside(alloc, operations, target),
-        Form::Remaining if target.found_nothing() => Ok(remaining(operations, target)),
+        Form::Taken => Ok(taken_candidate(target)),
+        Form::Inside if target.found_nothing() => inside_candidate(alloc, operations, target),
+        Form::Remaining if target.found_nothing() => Ok(remaining_candidate(operations, target)),
         _ => Ok(None),
     }
 }
@@ -329,8 +329,8 @@ fn of_fifo(
     target: &Operation,
 ) -> Result<Option<Certificate>, OutOfMemory> {
     match form {
-        Form::Passed => passed(alloc, operations, target),
-        Form::Preceded => Ok(preceded(operations, target)),
+        Form::Passed => passed_candidate(alloc, operations, target),
+        Form::Preceded => Ok(preceded_candidate(operations, target)),
         _ => of_bag(alloc, form, operations, target),
     }
 }
@@ -342,7 +342,7 @@ fn first_adds(
 ) -> Result<HashMap<Item, usize>, OutOfMemory> {
     let mut first: HashMap<Item, usize> = HashMap::new(alloc);
     for operation in operations {
-        if let Some(item) = operation.added()
+        if let Some(item) = operation.item_added()
             && operation.counts()
             && !first.contains_key(&item)
         {
@@ -353,7 +353,7 @@ fn first_adds(
 }
 
 /// The first item of the one list that the other, which rises, lacks.
-fn missing(members: &[Item], others: &[Item]) -> Option<Item> {
+fn first_missing(members: &[Item], others: &[Item]) -> Option<Item> {
     for member in members {
         if others.binary_search(member).is_err() {
             return Some(*member);
@@ -373,7 +373,7 @@ fn unadded_of(first: &HashMap<Item, usize>, members: &[Item]) -> Option<Item> {
 }
 
 /// A member that nothing may add, of a read.
-fn unadded(
+fn unadded_candidate(
     alloc: Global,
     operations: &[Operation],
     target: &Operation,
@@ -392,11 +392,11 @@ fn unadded(
 }
 
 /// An item that the set has behind the operation, and that the read lacks.
-fn lacking(operation: &Operation, members: &[Item]) -> Option<Item> {
+fn item_lacked(operation: &Operation, members: &[Item]) -> Option<Item> {
     match operation.members() {
-        Some(others) => missing(others, members),
+        Some(others) => first_missing(others, members),
         None => {
-            let item = operation.added()?;
+            let item = operation.item_added()?;
             if members.binary_search(&item).is_ok() {
                 return None;
             }
@@ -407,15 +407,15 @@ fn lacking(operation: &Operation, members: &[Item]) -> Option<Item> {
 
 /// The last invoked of the operations that returned before the place and behind which the set has what the read lacks: where it was known to be
 /// ok, its place, and the item.
-fn overlooked(
+fn last_overlooked(
     operations: &[Operation],
     members: &[Item],
     place: usize,
 ) -> Option<(usize, usize, Item)> {
     for operation in operations.iter().rev() {
-        if let Some((end, _)) = operation.returned()
+        if let Some((end, _)) = operation.ok_end()
             && end < place
-            && let Some(item) = lacking(operation, members)
+            && let Some(item) = item_lacked(operation, members)
         {
             return Some((end, operation.at, item));
         }
@@ -424,8 +424,8 @@ fn overlooked(
 }
 
 /// An item that a read lacks though the set had it before.
-fn lost(operations: &[Operation], target: &Operation) -> Option<Certificate> {
-    let (_, earlier, item) = overlooked(operations, target.members()?, target.at)?;
+fn lost_candidate(operations: &[Operation], target: &Operation) -> Option<Certificate> {
+    let (_, earlier, item) = last_overlooked(operations, target.members()?, target.at)?;
     Some(Certificate::Lost {
         earlier,
         read: target.at,
@@ -434,24 +434,24 @@ fn lost(operations: &[Operation], target: &Operation) -> Option<Certificate> {
 }
 
 /// Two reads of which each lacks what the other has, in this order.
-fn splitting(first: &Operation, second: &Operation) -> Option<Certificate> {
+fn split_of_both(first: &Operation, second: &Operation) -> Option<Certificate> {
     let members = first.members()?;
     let others = second.members()?;
     Some(Certificate::Split {
         first: first.at,
         second: second.at,
-        item: missing(members, others)?,
-        other: missing(others, members)?,
+        item: first_missing(members, others)?,
+        other: first_missing(others, members)?,
     })
 }
 
 /// Two reads of which each lacks what the other has, the last invoked first: this read, and of the others the last invoked one.
-fn split(operations: &[Operation], target: &Operation) -> Option<Certificate> {
+fn split_candidate(operations: &[Operation], target: &Operation) -> Option<Certificate> {
     for operation in operations.iter().rev() {
         let certificate = if target.at < operation.at {
-            splitting(operation, target)
+            split_of_both(operation, target)
         } else {
-            splitting(target, operation)
+            split_of_both(target, operation)
         };
         if certificate.is_some() {
             return certificate;
@@ -461,7 +461,7 @@ fn split(operations: &[Operation], target: &Operation) -> Option<Certificate> {
 }
 
 /// Where the member was added first that was added last.
-fn newest(first: &HashMap<Item, usize>, members: &[Item]) -> usize {
+fn place_of_last_added(first: &HashMap<Item, usize>, members: &[Item]) -> usize {
     let mut newest: usize = 0;
     for member in members {
         if let Some(add) = first.get(member).copied()
@@ -490,7 +490,7 @@ fn added_behind(
 }
 
 /// An item that a read lacks though the set had it before another one was added that the read has.
-fn late(
+fn late_candidate(
     alloc: Global,
     operations: &[Operation],
     target: &Operation,
@@ -499,7 +499,11 @@ fn late(
         return Ok(None);
     };
     let first = first_adds(alloc, operations)?;
-    let Some((end, earlier, item)) = overlooked(operations, members, newest(&first, members)) else {
+    let Some((end, earlier, item)) = last_overlooked(
+        operations,
+        members,
+        place_of_last_added(&first, members),
+    ) else {
         return Ok(None);
     };
     match added_behind(&first, members, end) {
@@ -523,18 +527,18 @@ fn of_set(
 ) -> Result<Option<Certificate>, OutOfMemory> {
     match form {
         Form::Shape if target.gives_value() => Ok(Some(Certificate::Shape { read: target.at })),
-        Form::Unadded => unadded(alloc, operations, target),
-        Form::Lost => Ok(lost(operations, target)),
-        Form::Split => Ok(split(operations, target)),
-        Form::Late => late(alloc, operations, target),
+        Form::Unadded => unadded_candidate(alloc, operations, target),
+        Form::Lost => Ok(lost_candidate(operations, target)),
+        Form::Split => Ok(split_candidate(operations, target)),
+        Form::Late => late_candidate(alloc, operations, target),
         _ => Ok(None),
     }
 }
 
 /// The last invoked call of the same function that returned before the operation.
-fn twice(operations: &[Operation], target: &Operation) -> Option<Certificate> {
+fn twice_candidate(operations: &[Operation], target: &Operation) -> Option<Certificate> {
     for operation in operations.iter().rev() {
-        if let Some((end, _)) = operation.returned()
+        if let Some((end, _)) = operation.ok_end()
             && operation.call == target.call
             && end < target.at
         {
@@ -555,9 +559,9 @@ fn of_mutex(
     target: &Operation,
 ) -> Result<Option<Certificate>, OutOfMemory> {
     match form {
-        Form::Twice => Ok(twice(operations, target)),
+        Form::Twice => Ok(twice_candidate(operations, target)),
         Form::Counted => Ok(Some(Certificate::Counted)),
-        Form::Within => within(alloc, operations, target),
+        Form::Within => within_candidate(alloc, operations, target),
         _ => Ok(None),
     }
 }
@@ -585,10 +589,10 @@ fn is_named(operations: &[Operation], target: &Operation) -> bool {
     for operation in operations {
         if operation.at < target.at
             && operation.call == target.call
-            && operation.taken() == target.taken()
+            && operation.item_taken() == target.item_taken()
             && operation.counts() == target.counts()
-            && (operation.returned().is_some() == target.returned().is_some()
-                || target.added().is_some())
+            && (operation.ok_end().is_some() == target.ok_end().is_some()
+                || target.item_added().is_some())
         {
             alike = alike.saturating_add(1);
         }
@@ -602,11 +606,11 @@ fn passed_naming(
     operations: &[Operation],
     target: &Operation,
 ) -> Result<Option<Certificate>, OutOfMemory> {
-    let found = passed(alloc, operations, target)?;
+    let found = passed_candidate(alloc, operations, target)?;
     if found.is_some() {
         return Ok(found);
     }
-    overtaken(alloc, operations, target)
+    overtaken_candidate(alloc, operations, target)
 }
 
 /// Of the certificates of the form that may hold of an object of the kind, and whose lines name the operation, which is the failing one, the one

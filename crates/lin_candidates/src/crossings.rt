@@ -7,14 +7,15 @@ use std::collections::HashMap;
 
 /// Whether an operation that isn't failed needs the value, or leaves it.
 fn may_touch(operation: &Operation, value: Val) -> bool {
-    operation.needed() == Some(value) || (operation.counts() && operation.left() == Some(value))
+    operation.value_needed() == Some(value)
+        || (operation.counts() && operation.value_left() == Some(value))
 }
 
 /// How many operations that aren't failed leave the value.
 fn times_left(operations: &[Operation], value: Val) -> usize {
     let mut times: usize = 0;
     for operation in operations {
-        if operation.counts() && operation.left() == Some(value) {
+        if operation.counts() && operation.value_left() == Some(value) {
             times = times.saturating_add(1);
         }
     }
@@ -25,7 +26,7 @@ fn times_left(operations: &[Operation], value: Val) -> usize {
 fn first_touching(operations: &[Operation], value: Val) -> Option<(usize, usize)> {
     let mut first: Option<(usize, usize)> = None;
     for operation in operations {
-        if let Some((end, _)) = operation.returned()
+        if let Some((end, _)) = operation.ok_end()
             && may_touch(operation, value)
             && first.is_none_or(|(least, _)| end < least)
         {
@@ -81,7 +82,7 @@ impl Touching {
         if from < operation.at && self.next.is_none() {
             self.next = Some(operation.at);
         }
-        if let Some((end, _)) = operation.returned()
+        if let Some((end, _)) = operation.ok_end()
             && end < target
             && self.before.is_none_or(|(most, _)| most < end)
         {
@@ -99,12 +100,12 @@ fn touches_of(
 ) -> Result<HashMap<Item, Touching>, OutOfMemory> {
     let mut known: HashMap<Item, Touching> = HashMap::new(alloc);
     for operation in operations {
-        if let Some(Val::Item(item)) = operation.needed() {
+        if let Some(Val::Item(item)) = operation.value_needed() {
             let mut about = known.get(&item).copied().unwrap_or(Touching::new());
             about.touch(operation, target, from);
             known.insert(item, about)?;
         }
-        if let Some(Val::Item(item)) = operation.left()
+        if let Some(Val::Item(item)) = operation.value_left()
             && operation.counts()
         {
             let mut about = known.get(&item).copied().unwrap_or(Touching::new());
@@ -215,7 +216,7 @@ fn crossed_with(
     let known = touches_of(alloc, operations, target, from)?;
     let mut best: Option<Crossing> = None;
     for operation in operations {
-        if let Some(Val::Item(item)) = operation.left()
+        if let Some(Val::Item(item)) = operation.value_left()
             && let Some(crossing) = crossing_of(&known, held, item)
             && best.is_none_or(|other| is_wanted(&crossing, &other))
         {
@@ -235,16 +236,16 @@ fn wanted_of(one: Option<Crossing>, other: Option<Crossing>) -> Option<Crossing>
 }
 
 /// Values that may be crossed, of which the operation touches the one late.
-pub fn crossed(
+pub fn crossed_candidate(
     alloc: Global,
     operations: &[Operation],
     target: &Operation,
 ) -> Result<Option<Certificate>, OutOfMemory> {
     let mut best = None;
-    if let Some(value) = target.needed() {
+    if let Some(value) = target.value_needed() {
         best = crossed_with(alloc, operations, target.at, value)?;
     }
-    if let Some(value) = target.left()
+    if let Some(value) = target.value_left()
         && target.counts()
     {
         best = wanted_of(best, crossed_with(alloc, operations, target.at, value)?);

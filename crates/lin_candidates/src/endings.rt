@@ -21,7 +21,7 @@ pub struct Operation<'a> {
 
 impl<'a> Operation<'a> {
     /// Where it was known to be ok, and its reply.
-    pub fn returned(&self) -> Option<(usize, &'a Reply)> {
+    pub fn ok_end(&self) -> Option<(usize, &'a Reply)> {
         match self.ending {
             Ending::Returned(end, reply) => Some((end, reply)),
             _ => None,
@@ -34,8 +34,8 @@ impl<'a> Operation<'a> {
     }
 
     /// The value that a register had to hold for it.
-    pub fn needed(&self) -> Option<Val> {
-        let (_, reply) = self.returned()?;
+    pub fn value_needed(&self) -> Option<Val> {
+        let (_, reply) = self.ok_end()?;
         match (self.call, reply) {
             (Call::Read, Reply::Value(value)) => Some(*value),
             (Call::Cas(from, _), _) => Some(from),
@@ -44,7 +44,7 @@ impl<'a> Operation<'a> {
     }
 
     /// The value that it leaves in a register.
-    pub fn left(&self) -> Option<Val> {
+    pub fn value_left(&self) -> Option<Val> {
         match self.call {
             Call::Write(value) => Some(value),
             Call::Cas(_, to) => Some(to),
@@ -53,7 +53,7 @@ impl<'a> Operation<'a> {
     }
 
     /// The value that it took a register from to another one.
-    pub fn spent(&self) -> Option<Val> {
+    pub fn value_spent(&self) -> Option<Val> {
         match self.call {
             Call::Cas(from, to) if from != to => Some(from),
             _ => None,
@@ -61,7 +61,7 @@ impl<'a> Operation<'a> {
     }
 
     /// What it adds to a set, or puts into a queue.
-    pub fn added(&self) -> Option<Item> {
+    pub fn item_added(&self) -> Option<Item> {
         match self.call {
             Call::Add(item) => Some(item),
             Call::Enqueue(item) => Some(item),
@@ -70,8 +70,8 @@ impl<'a> Operation<'a> {
     }
 
     /// What it took out of a queue.
-    pub fn taken(&self) -> Option<Item> {
-        let (_, reply) = self.returned()?;
+    pub fn item_taken(&self) -> Option<Item> {
+        let (_, reply) = self.ok_end()?;
         match (self.call, reply) {
             (Call::Dequeue, Reply::Value(Val::Item(item))) => Some(*item),
             _ => None,
@@ -80,7 +80,7 @@ impl<'a> Operation<'a> {
 
     /// What it read of a set.
     pub fn members(&self) -> Option<&'a [Item]> {
-        let (_, reply) = self.returned()?;
+        let (_, reply) = self.ok_end()?;
         match (self.call, reply) {
             (Call::Read, Reply::Members(members)) => Some(members.as_slice()),
             _ => None,

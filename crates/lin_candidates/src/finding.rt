@@ -8,7 +8,7 @@ ghost use Rattle.lin_candidates.specs.OwnCertificates.{IsOwn};
 
 use crate::candidates::{FORMS, Form, candidate, candidate_naming};
 use crate::endings::{Operation, operations_of};
-use crate::own::{own_certificate, tested};
+use crate::own::{certificate_that_holds, own_certificate};
 use lin_certificates::{Certificate, bag_failure};
 use lin_events::{Event, OutOfMemory};
 use lin_objects::Kind;
@@ -46,7 +46,7 @@ fn certificate_naming(
 {
     for form in FORMS.iter() {
         let some = candidate_naming(alloc, kind, *form, operations, failing)?;
-        let found = tested(events, ends, kind, some);
+        let found = certificate_that_holds(events, ends, kind, some);
         if found.is_some() {
             return Ok(found);
         }
@@ -92,7 +92,7 @@ fn certificate_of(
             break;
         }
         let some = candidate(alloc, kind, form, operations, operation)?;
-        let found = tested(events, ends, kind, some);
+        let found = certificate_that_holds(events, ends, kind, some);
         if found.is_some() {
             return Ok(found);
         }
@@ -136,7 +136,7 @@ fn certificate_of_search(
         Kind::Bag => bag_failure(alloc, events)?,
         Kind::Fifo | Kind::Set | Kind::Mutex => None,
     };
-    Ok(tested(events, ends, kind, failure.map(|(_, found)| found)))
+    Ok(certificate_that_holds(events, ends, kind, failure.map(|(_, found)| found)))
 }
 
 /// A certificate that holds of the events, which are those of one object of the kind, if the search finds one. `failing` is the place where the

@@ -43,7 +43,7 @@ fn taken_by(call: &Call, reply: &Reply) -> Option<Item>
 }
 
 /// The value that the operation at the place needs.
-fn needed(events: &[Event], ends: &[Option<usize>], at: usize) -> Option<Val>
+fn value_needed(events: &[Event], ends: &[Option<usize>], at: usize) -> Option<Val>
     requires { IsNextTable events.now ends.now }
     ensures { MatchOption result ((v : ValOf) → Needed events.now v at → ⊥) (λ value. (v : ValOf) → Needed events.now v at → value ≡ v) }
 {
@@ -57,7 +57,7 @@ fn needed(events: &[Event], ends: &[Option<usize>], at: usize) -> Option<Val>
 }
 
 /// The item that the operation at the place took out.
-fn taken(events: &[Event], ends: &[Option<usize>], at: usize) -> Option<Item>
+fn item_taken(events: &[Event], ends: &[Option<usize>], at: usize) -> Option<Item>
     requires { IsNextTable events.now ends.now }
     ensures { MatchOption result ((n : ItemOf) → TookOut events.now n at → ⊥) (λ item. (n : ItemOf) → TookOut events.now n at → item ≡ n) }
 {
@@ -71,7 +71,7 @@ fn taken(events: &[Event], ends: &[Option<usize>], at: usize) -> Option<Item>
 }
 
 /// The certificate, if there is one and it holds.
-pub(crate) fn tested(
+pub(crate) fn certificate_that_holds(
     events: &[Event],
     ends: &[Option<usize>],
     kind: Kind,
@@ -88,7 +88,7 @@ pub(crate) fn tested(
 }
 
 /// The certificate that the operation needs what nothing leaves, which has to be an item.
-fn unwritten(at: usize, value: Val) -> Option<Certificate>
+fn unwritten_certificate(at: usize, value: Val) -> Option<Certificate>
     ensures { (item : ItemOf) → value ≡ ValOf.Item item → result ≡ Some (Form.Unwritten at item) }
 {
     match value {
@@ -107,8 +107,8 @@ fn of_needed(events: &[Event], ends: &[Option<usize>], kind: Kind, at: usize) ->
     ensures unwritten { IfNone result ((item : ItemOf) → Certifies events.now kind (Form.Unwritten at item) → ⊥) }
     ensures overwritten { IfNone result ((v : ValOf) → Certifies events.now kind (Form.Overwritten at v) → ⊥) }
 {
-    let value = needed(events, ends, at)?;
-    let found = tested(events, ends, kind, unwritten(at, value));
+    let value = value_needed(events, ends, at)?;
+    let found = certificate_that_holds(events, ends, kind, unwritten_certificate(at, value));
     if found.is_some() {
         return found;
     }
@@ -116,7 +116,7 @@ fn of_needed(events: &[Event], ends: &[Option<usize>], kind: Kind, at: usize) ->
         operation: at,
         value,
     };
-    tested(events, ends, kind, Some(overwritten))
+    certificate_that_holds(events, ends, kind, Some(overwritten))
 }
 
 /// The certificate that the item that the operation took was taken out too often.
@@ -125,8 +125,8 @@ fn of_taken(events: &[Event], ends: &[Option<usize>], kind: Kind, at: usize) -> 
     ensures sound { IfSome result (λ found. Certifies events.now kind found) }
     ensures all { IfNone result ((n : ItemOf) → TookOut events.now n at → Certifies events.now kind (Form.Taken n) → ⊥) }
 {
-    let item = taken(events, ends, at)?;
-    tested(events, ends, kind, Some(Certificate::Taken { item }))
+    let item = item_taken(events, ends, at)?;
+    certificate_that_holds(events, ends, kind, Some(Certificate::Taken { item }))
 }
 
 /// The certificate that the operation found nothing where more was left, or that the calls of a lock are too many.
@@ -136,7 +136,7 @@ fn of_counts(events: &[Event], ends: &[Option<usize>], kind: Kind, at: usize) ->
     ensures remaining { IfNone result (Certifies events.now kind (Form.Remaining at) → ⊥) }
     ensures counted { IfNone result (Certifies events.now kind Form.Counted → ⊥) }
 {
-    let found = tested(
+    let found = certificate_that_holds(
         events,
         ends,
         kind,
@@ -145,7 +145,7 @@ fn of_counts(events: &[Event], ends: &[Option<usize>], kind: Kind, at: usize) ->
     if found.is_some() {
         return found;
     }
-    tested(events, ends, kind, Some(Certificate::Counted))
+    certificate_that_holds(events, ends, kind, Some(Certificate::Counted))
 }
 
 /// A certificate that the operation at the place decides alone, wherever there is one.
@@ -159,7 +159,7 @@ pub(crate) fn own_certificate(
     ensures sound { IfSome result (λ found. Certifies events.now kind found) }
     ensures all { IfNone result ((c : CertificateOf) → IsOwn events.now at c → Certifies events.now kind c → ⊥) }
 {
-    let shape = tested(events, ends, kind, Some(Certificate::Shape { read: at }));
+    let shape = certificate_that_holds(events, ends, kind, Some(Certificate::Shape { read: at }));
     if shape.is_some() {
         return shape;
     }

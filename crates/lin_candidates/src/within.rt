@@ -92,7 +92,7 @@ fn is_open(operation: &Operation, compared: &Compared, to: usize) -> bool {
 }
 
 /// How many times oftener the one call may have been made from the place on: the lock begins free.
-fn spare(compared: &Compared, from: usize) -> usize {
+fn calls_to_spare(compared: &Compared, from: usize) -> usize {
     match compared.sort {
         Calls::Releases if from == 0 => 0,
         _ => 1,
@@ -111,7 +111,7 @@ fn last_start(changes: &[Change], open: usize, compared: &Compared) -> Option<us
             Change::Other => can = can.saturating_add(1),
             Change::Nothing => {}
         }
-        if can.saturating_add(spare(compared, from)) < made {
+        if can.saturating_add(calls_to_spare(compared, from)) < made {
             return Some(from);
         }
     }
@@ -145,7 +145,7 @@ fn ends_behind(
 ) -> Result<Vec<usize>, OutOfMemory> {
     let mut ends = Vec::new(alloc);
     for operation in operations {
-        if let Some((end, _)) = operation.returned()
+        if let Some((end, _)) = operation.ok_end()
             && operation.call == compared.call
             && place < end
         {
@@ -179,7 +179,7 @@ fn within_for_failed(
 }
 
 /// A stretch of the history in which a lock had the operation's call too often, if this is ok, or too seldom, if it failed.
-pub fn within(
+pub fn within_candidate(
     alloc: Global,
     operations: &[Operation],
     target: &Operation,

@@ -87,7 +87,7 @@ impl Search {
     }
 
     /// An operation was invoked at the place.
-    fn invoked(
+    fn note_invocation(
         &mut self,
         alloc: Global,
         at: usize,
@@ -199,7 +199,7 @@ impl Search {
     }
 
     /// The dequeue returned at the place with what it found.
-    fn dequeued(
+    fn note_dequeue(
         &mut self,
         alloc: Global,
         dequeue: usize,
@@ -226,14 +226,16 @@ impl Search {
         event: &Event,
     ) -> Result<Option<Certificate>, OutOfMemory> {
         if let Body::Invoke(call) = &event.body {
-            self.invoked(alloc, at, event.process, *call)?;
+            self.note_invocation(alloc, at, event.process, *call)?;
             return Ok(None);
         }
         let Some((operation, call)) = self.latest.get(&event.process).copied() else {
             return Ok(None);
         };
         match (&event.body, call) {
-            (Body::Ok(_, Reply::Value(found)), _) => self.dequeued(alloc, operation, *found, at),
+            (Body::Ok(_, Reply::Value(found)), _) => self.note_dequeue(
+                alloc, operation, *found, at,
+            ),
             (Body::Ok(_, _), Call::Enqueue(item)) => {
                 self.put_in(item, at)?;
                 Ok(None)

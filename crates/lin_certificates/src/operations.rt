@@ -22,7 +22,7 @@ fn counts(events: &[Event], ends: &[Option<usize>], at: usize, calls: &Calls) ->
 }
 
 /// Whether the operation at the place is ok, and its call with its reply is of the sort.
-fn returned(events: &[Event], ends: &[Option<usize>], at: usize, answers: &Answers) -> bool
+fn is_answered_so(events: &[Event], ends: &[Option<usize>], at: usize, answers: &Answers) -> bool
     requires table { IsNextTable events.now ends.now }
     requires within { at < length events.now }
     ensures { IsTrue result ↔ Returned events.now (IsOfAnswers answers.now) at }
@@ -76,7 +76,7 @@ fn may_take_ahead(events: &[Event], ends: &[Option<usize>], at: usize, dequeue: 
 {
     let same = at == dequeue;
     let may = counts(events, ends, at, &Calls::Dequeues);
-    let nothing = returned(events, ends, at, &Answers::FindsNothing);
+    let nothing = is_answered_so(events, ends, at, &Answers::FindsNothing);
     let behind = comes_before(events, ends, dequeue, at);
     !same & may & !nothing & !behind
 }
@@ -120,7 +120,7 @@ fn returned_within(
     requires within { at < length events.now }
     ensures { IsTrue result ↔ (Returned events.now (IsOfAnswers answers.now) at × (places.0 ≤ at) × IsBefore events.now at places.1) }
 {
-    let made = returned(events, ends, at, answers);
+    let made = is_answered_so(events, ends, at, answers);
     let early = at < places.0;
     let before = is_before(events, ends, at, places.1);
     made & !early & before
@@ -154,10 +154,10 @@ pub fn is_of_which(events: &[Event], ends: &[Option<usize>], at: usize, which: &
         Which::Counts(calls) => counts(events, ends, at, calls),
         Which::CountsBut(calls, but) => at != *but && counts(events, ends, at, calls),
         Which::CountsBelow(calls, place) => at < *place && counts(events, ends, at, calls),
-        Which::Returned(answers) => returned(events, ends, at, answers),
-        Which::ReturnedBut(answers, but) => at != *but && returned(events, ends, at, answers),
+        Which::Returned(answers) => is_answered_so(events, ends, at, answers),
+        Which::ReturnedBut(answers, but) => at != *but && is_answered_so(events, ends, at, answers),
         Which::ReturnedBefore(answers, place) => {
-            returned(events, ends, at, answers) && is_before(events, ends, at, *place)
+            is_answered_so(events, ends, at, answers) && is_before(events, ends, at, *place)
         }
         Which::ReturnedWithin(answers, from, to) => {
             returned_within(events, ends, at, answers, (*from, *to))

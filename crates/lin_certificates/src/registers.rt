@@ -157,7 +157,7 @@ pub fn are_crossed(
 }
 
 /// How often a register begins with the value.
-fn begun(value: Val) -> usize
+fn times_at_beginning(value: Val) -> usize
     ensures { result ≡ begun_with value }
 {
     match value {
@@ -175,5 +175,5 @@ pub fn is_spent(events: &[Event], ends: &[Option<usize>], value: Val) -> bool
     let comes = count_of(events, ends, &Which::Counts(Calls::Leaves(value)));
     let spending = Which::Returned(Answers::Called(Calls::Spends(value)));
     let goes = count_of(events, ends, &spending);
-    comes < goes.saturating_sub(begun(value))
+    comes < goes.saturating_sub(times_at_beginning(value))
 }

@@ -46,7 +46,11 @@ fn is_early(operation: &Open, until: u32) -> bool
 }
 
 /// The operations that were called before the event at the position.
-pub(crate) fn early(pending: &[Open], until: u32, list: Vec<Open>) -> Result<Vec<Open>, OutOfMemory>
+pub(crate) fn operations_before(
+    pending: &[Open],
+    until: u32,
+    list: Vec<Open>,
+) -> Result<Vec<Open>, OutOfMemory>
     requires { list.items ≡ [] }
     ensures { IfOk result (λ out. out.items ≡ early_of until pending.now) }
 {
@@ -171,10 +175,10 @@ impl<'a, O: SeqObject> Completion<'a, O> {
             → (now : ℕ) → IsReturnedAhead (O.step self.now.object.now) (O.observing self.now.object.now) self.now.operation.now self.now.reply.now self.now.pending.now nodes.new now returned.now.member.now returned.now.config.0 n)) }
         ensures tried { IsTriedAtMost (length self.now.pending.now) meter.old meter.new }
     {
-        let operations = early(
+        let operations = operations_before(
             self.pending.as_slice(),
             returned.member.path().until,
-            scratch.early(),
+            scratch.early_list(),
         )?;
         let before = Pending::of(&operations);
         self.return_beside(returned, &before, out, nodes, meter, scratch)?;
@@ -449,10 +453,10 @@ impl<'a, O: SeqObject> Completion<'a, O> {
             → ((last : O.State) × O.step self.now.object.now d.0 self.now.operation.now.call last self.now.reply.now) → IsAskedLikeAhead (O.step self.now.object.now) (O.observing self.now.object.now) self.now.operation.now self.now.reply.now self.now.pending.now nodes.new now member.now out.new.items o p.reply d.0) }
         ensures tried { IsTriedAtMost (length self.now.pending.now * (length self.now.pending.now + 2)) meter.old meter.new }
     {
-        let operations = early(
+        let operations = operations_before(
             self.pending.as_slice(),
             member.path().until,
-            scratch.early(),
+            scratch.early_list(),
         )?;
         let before = Pending::of(&operations);
         self.ask_all_beside(member, &before, out, nodes, meter, scratch)?;

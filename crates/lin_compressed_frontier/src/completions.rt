@@ -84,7 +84,7 @@ fn push_next<S: Eq + Hash + Drop>(
 }
 
 /// The starts that a search has to note: none where nothing hinders the operation, since then it goes ahead at each.
-fn noted<'s, S: Eq + Hash>(
+fn starts_to_note<'s, S: Eq + Hash>(
     hindering: Option<usize>,
     starts: &'s [&'s Member<S>],
 ) -> &'s [&'s Member<S>] {
@@ -544,7 +544,7 @@ impl<'a, O: SeqObject> Completion<'a, O> {
     }
 
     /// How many of the operations that are open beside it hinder this one, an update; `None` where one of them observes, or it does.
-    fn hindering(&self) -> Option<usize>
+    fn count_hindering(&self) -> Option<usize>
         ensures { IfSome result (AreHindering (O.observing self.now.object.now) (O.hindered self.now.object.now) self.now.operation.now self.now.reply.now self.now.pending.now) }
     {
         if self.object.observes(&self.operation.call) {
@@ -653,10 +653,10 @@ impl<'a, O: SeqObject> Completion<'a, O> {
         ensures found { IfOk result (λ found. IfSome found (λ out. IsFoundFrom (O.step self.now.object.now) (O.observing self.now.object.now) self.now.operation.now self.now.reply.now self.now.pending.now nodes.new (map (λ m. m.now) starts.now) out.items)) }
         ensures tried { IsTriedAtMost (limit * (2 * length self.now.pending.now + 1)) meter.old meter.new }
     {
-        let hindering = self.hindering();
-        let mut seen = Seen::new(self.alloc, self.pending, noted(hindering, starts))?;
+        let hindering = self.count_hindering();
+        let mut seen = Seen::new(self.alloc, self.pending, starts_to_note(hindering, starts))?;
         let mut out = found;
-        let mut visited = scratch.visited();
+        let mut visited = scratch.visited_list();
         for start in starts {
             let path = start.path();
             let found = self.take_up(hindering, start, &mut out, nodes, meter, scratch)?;

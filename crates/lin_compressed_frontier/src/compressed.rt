@@ -22,7 +22,7 @@ ghost use Rattle.lin_frontier.specs.Walks.{IsTriedAtMost};
 
 use crate::completions::{Completion, push_if};
 use crate::scratch::Scratch;
-use crate::thinning::{pruned_several, thinned};
+use crate::thinning::{pruned_several, thin_members};
 use lin_events::{
     Body, Event, Meter, OutOfMemory, Reply, ends_are_unique, well_formed_is_alternating,
 };
@@ -323,7 +323,7 @@ pub(crate) fn alone_all<S: Eq + Hash + Drop>(members: Vec<Member<S>>) -> Vec<Mem
 }
 
 /// The members of those that were found that are kept: one stands for all that are alike where none has overwritten updates.
-fn kept<O: SeqObject>(
+fn keep_members<O: SeqObject>(
     object: &O,
     alloc: Global,
     pending: &Pending,
@@ -334,7 +334,7 @@ fn kept<O: SeqObject>(
     ensures others { IfOk result (λ out. alone ≡ false → IsPruned (O.observing object.now) pending.now found.items out.items) }
 {
     if alone {
-        return thinned(object, alloc, pending, alone_all(found));
+        return thin_members(object, alloc, pending, alone_all(found));
     }
     pruned_several(object, alloc, pending, found)
 }
@@ -438,7 +438,7 @@ fn ended_by(pending: &[Open], event: &Event) -> Option<usize>
 }
 
 /// The operations but for the one at the place, in the empty list.
-fn others(list: Vec<Open>, operations: &[Open], place: usize) -> Result<Vec<Open>, OutOfMemory>
+fn all_but(list: Vec<Open>, operations: &[Open], place: usize) -> Result<Vec<Open>, OutOfMemory>
     requires empty { list.items ≡ [] }
     requires inside { place < length operations.now }
     ensures { IfOk result (λ out. out.items ≡ remove operations.now place) }
@@ -464,7 +464,7 @@ pub(crate) fn open_after(
     well_formed_is_alternating();
     ends_are_unique();
     if let Some(place) = ended_by(before, event) {
-        return others(list, before, place);
+        return all_but(list, before, place);
     }
     let mut after = list;
     append_operations(&mut after, before)?;
@@ -521,7 +521,7 @@ fn list_after(
 
 /// The part, or else the list.
 #[inline(always)]
-fn either<'a>(part: Option<&'a [Open]>, list: &'a [Open]) -> &'a [Open]
+fn part_or_list<'a>(part: Option<&'a [Open]>, list: &'a [Open]) -> &'a [Open]
     ensures some { IfSome part.entry (λ p. result.now ≡ p.now) }
     ensures none { IfNone part.entry (result.now ≡ list.now) }
 {
@@ -532,7 +532,7 @@ fn either<'a>(part: Option<&'a [Open]>, list: &'a [Open]) -> &'a [Open]
 }
 
 /// The members after the event, none of which another one is above; `None` where a search comes to more than the limit.
-fn advanced<O: SeqObject>(
+fn advance_members<O: SeqObject>(
     arrival: &Arrival<O>,
     members: &[Member<O::State>],
     search: Search,
@@ -572,13 +572,13 @@ fn advanced<O: SeqObject>(
         arrival.at,
         arrival.event,
     )?;
-    let after = either(part, &list);
+    let after = part_or_list(part, &list);
     let pending = Pending::of(after);
     let Some(found) = next_members(arrival, members, &pending, search, nodes, meter, scratch)?
     else {
         return Ok(None);
     };
-    let kept = kept(arrival.object, arrival.alloc, &pending, found, search.alone)?;
+    let kept = keep_members(arrival.object, arrival.alloc, &pending, found, search.alone)?;
     scratch.keep_open(list);
     Ok(Some(kept))
 }
@@ -649,7 +649,7 @@ impl<O: SeqObject> Compressed<O> {
         members_are_exact(arrival.object);
         meter.tick_step();
         let count = nodes.len();
-        match advanced(arrival, &self.members, search, nodes, meter, scratch) {
+        match advance_members(arrival, &self.members, search, nodes, meter, scratch) {
             Ok(Some(members)) => {
                 if members.is_empty() {
                     nodes.cut(count);

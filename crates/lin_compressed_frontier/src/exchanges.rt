@@ -109,7 +109,7 @@ fn put_renamed(
 }
 
 /// The pairs with the other process in place of this one.
-fn renamed(
+fn rename_process(
     alloc: Global,
     pairs: &[(u64, Reply)],
     process: u64,
@@ -138,7 +138,7 @@ fn settle_one(
     ensures { IfOk result (λ out. (first : List (ℕ × ReplyOf)) → IsRenamed pending.now first placed → IsRenamed pending.now first out) }
 {
     match stand_in(pending, placed.as_slice(), operation) {
-        Some(other) => renamed(alloc, placed.as_slice(), operation.process, other.process),
+        Some(other) => rename_process(alloc, placed.as_slice(), operation.process, other.process),
         None => Ok(placed),
     }
 }

@@ -37,7 +37,7 @@ pub(crate) fn empty<T: Drop>(list: &mut Vec<T>)
 
 /// The list, emptied, with one that has no memory in its place.
 #[inline(always)]
-fn emptied<T: Drop>(alloc: Global, list: &mut Vec<T>) -> Vec<T>
+fn take_list<T: Drop>(alloc: Global, list: &mut Vec<T>) -> Vec<T>
     ensures { result.items ≡ [] }
 {
     let mut emptied = mem::replace(list, Vec::new(alloc));
@@ -89,7 +89,7 @@ impl<O: SeqObject> Scratch<O> {
     pub(crate) fn found(&mut self, room: usize) -> Result<Vec<Member<O::State>>, OutOfMemory>
         ensures { IfOk result (λ list. list.items ≡ []) }
     {
-        let mut list = emptied(self.alloc, &mut self.found);
+        let mut list = take_list(self.alloc, &mut self.found);
         list.reserve(room)?;
         Ok(list)
     }
@@ -99,7 +99,7 @@ impl<O: SeqObject> Scratch<O> {
     pub(crate) fn open(&mut self) -> Vec<Open>
         ensures { result.items ≡ [] }
     {
-        emptied(self.alloc, &mut self.open)
+        take_list(self.alloc, &mut self.open)
     }
 
     /// Takes the list of open operations back.
@@ -110,10 +110,10 @@ impl<O: SeqObject> Scratch<O> {
 
     /// An empty list for operations that were called early.
     #[inline(always)]
-    pub(crate) fn early(&mut self) -> Vec<Open>
+    pub(crate) fn early_list(&mut self) -> Vec<Open>
         ensures { result.items ≡ [] }
     {
-        emptied(self.alloc, &mut self.early)
+        take_list(self.alloc, &mut self.early)
     }
 
     /// Takes the list of early operations back.
@@ -124,10 +124,10 @@ impl<O: SeqObject> Scratch<O> {
 
     /// An empty list for members that a search comes to.
     #[inline(always)]
-    pub(crate) fn visited(&mut self) -> Vec<Member<O::State>>
+    pub(crate) fn visited_list(&mut self) -> Vec<Member<O::State>>
         ensures { result.items ≡ [] }
     {
-        emptied(self.alloc, &mut self.visited)
+        take_list(self.alloc, &mut self.visited)
     }
 
     /// Takes the list of visited members back.
@@ -141,7 +141,7 @@ impl<O: SeqObject> Scratch<O> {
     pub(crate) fn next(&mut self) -> Vec<(Config<O::State>, Placed)>
         ensures { result.items ≡ [] }
     {
-        emptied(self.alloc, &mut self.next)
+        take_list(self.alloc, &mut self.next)
     }
 
     /// Takes the list of configurations back.

@@ -22,7 +22,7 @@ pub struct Seen {
 }
 
 /// What stands from the place on.
-fn later<T>(items: &[T], from: usize) -> &[T]
+fn suffix_from<T>(items: &[T], from: usize) -> &[T]
     ensures { result.now ≡ drop from items.now }
 {
     items.get(from..).unwrap_or(&[])
@@ -188,7 +188,7 @@ impl Seen {
         pending: &Pending,
         visited: &[Member<S>],
     ) -> Result<(), OutOfMemory> {
-        let rest = later(visited, self.visited.len());
+        let rest = suffix_from(visited, self.visited.len());
         if rest.len() > FEW {
             for member in rest {
                 self.visited.note(alloc, key(pending, member.config()))?;
@@ -228,7 +228,7 @@ impl Seen {
     ) -> bool
         ensures { IsTrue result → (m : MemberOf O.State × PathOf) × Contains visited.now m × DominatesIn (O.observing object.now) pending.now m.0 config.now.0 config.now.1 offers.now }
     {
-        let rest = later(visited, self.visited.len());
+        let rest = suffix_from(visited, self.visited.len());
         if is_visited_dominated(object, pending, rest, config, offers) {
             return true;
         }

@@ -13,7 +13,7 @@ use lin_objects::SeqObject;
 use std::alloc::Global;
 
 /// The member with each crashed operation in the place of the first like it that isn't placed, and with this node.
-fn settled<O: SeqObject>(
+fn settle_member<O: SeqObject>(
     object: &O,
     alloc: Global,
     pending: &Pending,
@@ -54,7 +54,7 @@ fn shadows<O: SeqObject>(
         let Ok(node) = u32::try_from(at) else {
             return Err(OutOfMemory);
         };
-        let shadow = settled(object, alloc, pending, member, node)?;
+        let shadow = settle_member(object, alloc, pending, member, node)?;
         push_member(&mut out, shadow)?;
         at += 1;
     }
@@ -63,7 +63,7 @@ fn shadows<O: SeqObject>(
 
 /// The members at the places that the nodes of the others name.
 #[inline(never)]
-fn picked<O: SeqObject>(
+fn pick_members<O: SeqObject>(
     object: &O,
     alloc: Global,
     members: &[Member<O::State>],
@@ -100,7 +100,7 @@ pub(crate) fn pruned_several<O: SeqObject>(
 
 /// The members of which no other one dominates any. Of those that are alike but for crashed operations that have the same
 /// call, one stands for all.
-pub fn thinned<O: SeqObject>(
+pub fn thin_members<O: SeqObject>(
     object: &O,
     alloc: Global,
     pending: &Pending,
@@ -114,6 +114,6 @@ pub fn thinned<O: SeqObject>(
     }
     let others = shadows(object, alloc, pending, &first)?;
     let kept = pruned_several(object, alloc, pending, others)?;
-    let fewer = picked(object, alloc, &first, &kept)?;
+    let fewer = pick_members(object, alloc, &first, &kept)?;
     pruned_several(object, alloc, pending, fewer)
 }

@@ -233,7 +233,7 @@ impl<O: SeqObject> Compressed<O> {
     {
         let budget = budget as usize;
         if self.stays(arrival.event) {
-            return self.kept(arrival, budget, nodes, meter);
+            return self.same_or_over(arrival, budget, nodes, meter);
         }
         let count = nodes.len();
         match self.step(arrival, budget, nodes, meter, scratch) {
@@ -270,7 +270,7 @@ impl<O: SeqObject> Compressed<O> {
     }
 
     /// After such an event the members are the same, unless the configurations are counted and too many.
-    fn kept(
+    fn same_or_over(
         &self,
         arrival: &Arrival<O>,
         budget: usize,

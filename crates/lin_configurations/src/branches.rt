@@ -106,7 +106,7 @@ fn is_untold<O: SeqObject>(object: &O, state: &O::State, reads: &Call, operation
 }
 
 /// Those of the operations that do, one for each call.
-fn untold<O: SeqObject>(
+fn one_of_each_call<O: SeqObject>(
     object: &O,
     alloc: Global,
     operations: &[Open],
@@ -161,7 +161,7 @@ pub fn are_surely_more<O: SeqObject>(
         return Ok(false);
     };
     let reads = with_call(alloc, free, &reader.call)?;
-    let updates = untold(object, alloc, free, member.state(), &reader.call)?;
+    let updates = one_of_each_call(object, alloc, free, member.state(), &reader.call)?;
     let places = reads.as_slice().len().saturating_add(2);
     Ok(is_power_above(places, updates.as_slice().len(), budget))
 }

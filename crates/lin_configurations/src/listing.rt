@@ -24,7 +24,7 @@ use lin_objects::SeqObject;
 use std::alloc::Global;
 
 /// The member alone, with nothing on offer.
-fn alone<O: SeqObject>(
+fn gather_alone<O: SeqObject>(
     object: &O,
     alloc: Global,
     pending: &Pending,
@@ -54,7 +54,7 @@ fn spread<O: SeqObject>(
         → IsSpelled (O.starts object.now) (O.step object.now) (O.observing object.now) h nodes.old member.now → IsOver (O.starts object.now) (O.step object.now) h budget)) }
     ensures tried { IsTriedAtMost 0 meter.old meter.new }
 {
-    let starts = alone(object, alloc, pending, member)?;
+    let starts = gather_alone(object, alloc, pending, member)?;
     let choices = Expansion {
         object,
         alloc,

@@ -18,7 +18,7 @@ pub(crate) enum Piece<'a> {
 }
 
 /// The letter, or one in its place where XML doesn't have it or it is a control character.
-fn shown(letter: char) -> char
+fn letter_for_xml(letter: char) -> char
     ensures { result ≡ shown_letter letter }
 {
     if letter.is_control() || letter == '\u{fffe}' || letter == '\u{ffff}' {
@@ -37,7 +37,7 @@ fn put_letter(text: &mut Vec<u8>, letter: char) -> Result<(), AllocError>
         '<' => text.extend_from_slice(b"&lt;"),
         '>' => text.extend_from_slice(b"&gt;"),
         '"' => text.extend_from_slice(b"&quot;"),
-        _ => text.extend_from_slice(shown(letter).encode_utf8(&mut bytes).as_bytes()),
+        _ => text.extend_from_slice(letter_for_xml(letter).encode_utf8(&mut bytes).as_bytes()),
     }
 }
 

@@ -226,7 +226,7 @@ fn inside_of(alloc: Global, scene: &Scene, texts: &Texts) -> Result<Vec<u8>, All
 }
 
 /// The SVG with this inside.
-fn enclosed(alloc: Global, inside: &[u8]) -> Result<Vec<u8>, AllocError>
+fn svg_of(alloc: Global, inside: &[u8]) -> Result<Vec<u8>, AllocError>
     ensures { IfOk result (λ text. text.items ≡ (codes "<svg " ++ inside.now) ++ codes "</svg>\n") }
 {
     let mut text = Vec::from_slice(alloc, b"<svg ")?;
@@ -236,9 +236,9 @@ fn enclosed(alloc: Global, inside: &[u8]) -> Result<Vec<u8>, AllocError>
 }
 
 /// The picture.
-pub(crate) fn drawn(alloc: Global, scene: &Scene, texts: &Texts) -> Result<Vec<u8>, AllocError>
+pub(crate) fn draw_scene(alloc: Global, scene: &Scene, texts: &Texts) -> Result<Vec<u8>, AllocError>
     ensures { IfOk result (λ text. IsSvg text.items) }
 {
     let inside = inside_of(alloc, scene, texts)?;
-    enclosed(alloc, inside.as_slice())
+    svg_of(alloc, inside.as_slice())
 }

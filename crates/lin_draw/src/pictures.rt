@@ -6,7 +6,7 @@ ghost use Rattle.lin_draw.specs.Pictures.{IsSvg};
 
 use crate::bars::Scene;
 use crate::choosing::{Choice, Focus, choose, most_drawn, named_of};
-use crate::drawing::{Texts, drawn, width_of};
+use crate::drawing::{Texts, draw_scene, width_of};
 use crate::fitting::fit;
 use crate::heads::{Subject, head_of, left_out, subject_of, told_of};
 use crate::layouts::{Layout, MARGIN, Object};
@@ -94,7 +94,7 @@ fn events_for(alloc: Global, asked: &Sketch) -> Result<Own, OutOfMemory> {
 }
 
 /// The picture with the layout and the texts.
-fn finished(
+fn picture_of_layout(
     alloc: Global,
     asked: &Sketch,
     own: &Own,
@@ -111,7 +111,7 @@ fn finished(
         layout: &layout,
         places: asked.wanted.places,
     };
-    Ok(drawn(alloc, &scene, texts)?)
+    Ok(draw_scene(alloc, &scene, texts)?)
 }
 
 /// The head of the picture; with the failing operation its title.
@@ -132,7 +132,7 @@ fn head_for(
 }
 
 /// The picture of the object, of whose operations these may be drawn.
-fn pictured(
+fn picture_of_object(
     alloc: Global,
     asked: &Sketch,
     object: &Object,
@@ -154,7 +154,7 @@ fn pictured(
         more: more.as_slice(),
         is_failure: matches!(asked.answer, Answer::No { .. }),
     };
-    finished(alloc, asked, object.own, layout, &texts)
+    picture_of_layout(alloc, asked, object.own, layout, &texts)
 }
 
 /// The picture of what is asked.
@@ -179,7 +179,7 @@ fn picture_of<O: Orders>(alloc: Global, orders: &O, asked: &Sketch) -> Result<Ve
         ends: ends.as_slice(),
         order: order_in(asked.answer, found.as_slice()),
     };
-    pictured(alloc, asked, &object, choice)
+    picture_of_object(alloc, asked, &object, choice)
 }
 
 /// A picture of the operations around the answer, as an SVG, and where their events stand in the file.

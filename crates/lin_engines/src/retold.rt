@@ -100,7 +100,11 @@ impl Retold {
     }
 
     /// Operations of these events by their places among the object's, the first one last.
-    fn turned(&self, alloc: Global, order: Vec<Placed>) -> Result<Vec<Placed>, OutOfMemory> {
+    fn reverse_to_places(
+        &self,
+        alloc: Global,
+        order: Vec<Placed>,
+    ) -> Result<Vec<Placed>, OutOfMemory> {
         let mut order = order;
         let mut hint = Vec::new(alloc);
         while let Some(placed) = order.pop() {
@@ -201,7 +205,7 @@ pub(crate) fn retold_hint(
         return Ok(None);
     }
     match order_of(alloc, config.state(), &retold.events)? {
-        Some(order) => Ok(Some(retold.turned(alloc, order)?)),
+        Some(order) => Ok(Some(retold.reverse_to_places(alloc, order)?)),
         None => Ok(None),
     }
 }

@@ -12,7 +12,7 @@ use std::alloc::Global;
 
 /// What may be placed next, the first one last, over the object's events from the place on: if the configuration is one of a register, of a
 /// queue, ordered or not, and a search finds it. Each of these events is a step.
-pub(crate) fn suggested(
+pub(crate) fn suggest_next(
     alloc: Global,
     config: &Config<State>,
     opened: &OpenList,
@@ -48,7 +48,7 @@ fn register_hint(
 {
     let open = waiting(alloc, config, opened)?;
     match register_order_from(alloc, held, &open, rest, meter)? {
-        Some(order) => Ok(Some(turned(alloc, order, opened, of)?)),
+        Some(order) => Ok(Some(reverse_to_places(alloc, order, opened, of)?)),
         None => Ok(None),
     }
 }
@@ -132,7 +132,7 @@ fn reply_of(
 
 /// The same operations by their places among the object's events, the first one last. A search names open ones by their numbers, and those
 /// of the rest of the events by numbers behind these.
-fn turned(
+fn reverse_to_places(
     alloc: Global,
     order: Vec<Placed>,
     opened: &OpenList,

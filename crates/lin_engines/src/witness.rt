@@ -34,7 +34,7 @@ ghost use Rattle.lin_frontier.specs.Walks.{IsTriedAtMost};
 ghost use Rattle.lin_engines.specs.Witnesses.{IsLonger, IsPassed, IsWitness, listed, order_in, quarters};
 
 use crate::outcomes::{outcome, outcome_behind};
-use crate::searching::{suggested, tick};
+use crate::searching::{suggest_next, tick};
 use lin_events::{Body, Event, Meter, OutOfMemory, Reply, beginnings_are_well_formed};
 use lin_frontier::{
     Config, Open, OpenList, OpenMark, Spare, copy_config, copy_without, is_absent, is_placed,
@@ -317,7 +317,7 @@ impl Witness {
         ensures steps { meter.new.steps + self.old.of ≤ meter.old.steps + length picks.now }
         ensures scans { meter.new.scans ≡ meter.old.scans }
     {
-        if let Some(hint) = suggested(
+        if let Some(hint) = suggest_next(
             self.alloc,
             &self.config,
             &self.opened,

@@ -41,7 +41,7 @@ impl Lock {
     pub fn order(&self, alloc: Global) -> Result<Vec<Placed>, OutOfMemory>
         ensures { IfOk result (λ order. (h : List EventOf) → IsLockOf self.now h → IsLegalOrderAs Mutex (take (reached_in self.now) h) order.items) }
     {
-        self.standing.settled(alloc)
+        self.standing.paid_order(alloc)
     }
 
     /// Takes one more event in, unless the events have no legal order with it.

@@ -82,7 +82,7 @@ fn stand(own: &mut Side, order: &mut Vec<Option<usize>>, returned: Return, owes:
 }
 
 /// Takes in that an operation of the one side's call returns.
-fn turned(
+fn take_in_return(
     own: &mut Side,
     other: &mut Side,
     order: &mut Vec<Option<usize>>,
@@ -126,7 +126,7 @@ fn turned(
 }
 
 /// The operations that stand there, each of them done.
-fn placed(alloc: Global, order: &[Option<usize>]) -> Result<Vec<Placed>, OutOfMemory>
+fn list_placed(alloc: Global, order: &[Option<usize>]) -> Result<Vec<Placed>, OutOfMemory>
     ensures { IfOk result (λ placed. placed.items ≡ filled (λ k. 0) 0 order.now) }
 {
     let mut placed = Vec::with_capacity(alloc, order.len())?;
@@ -223,7 +223,7 @@ impl Standing {
             held: self.held,
             fits: self.fits(true),
         };
-        let turn = turned(
+        let turn = take_in_return(
             &mut self.acquires,
             &mut self.releases,
             &mut self.order,
@@ -256,7 +256,7 @@ impl Standing {
             held: self.held,
             fits: self.fits(false),
         };
-        let turn = turned(
+        let turn = take_in_return(
             &mut self.releases,
             &mut self.acquires,
             &mut self.order,
@@ -315,7 +315,7 @@ impl Standing {
     }
 
     /// What changed with an operation that failed, of which this was closed.
-    fn failed(&self, closed: Option<Closed>) -> EndChange
+    fn failure_change(&self, closed: Option<Closed>) -> EndChange
         ensures { result ≡ record { closed = closed; paid = None; owes = false; held = self.now.held; length = length self.now.order.items } }
     {
         EndChange {
@@ -341,11 +341,11 @@ impl Standing {
         };
         match running.call {
             Call::Acquire => match self.acquires.withdraw(running.begin) {
-                Withdrawal::Passes(closed) => Some(Change::Acquired(self.failed(closed))),
+                Withdrawal::Passes(closed) => Some(Change::Acquired(self.failure_change(closed))),
                 Withdrawal::Fails => None,
             },
             Call::Release => match self.releases.withdraw(running.begin) {
-                Withdrawal::Passes(closed) => Some(Change::Released(self.failed(closed))),
+                Withdrawal::Passes(closed) => Some(Change::Released(self.failure_change(closed))),
                 Withdrawal::Fails => None,
             },
             _ => Some(Change::Stayed),
@@ -413,12 +413,12 @@ impl Standing {
     }
 
     /// A legal order, in which what is owed is paid by open operations.
-    pub(crate) fn settled(&self, alloc: Global) -> Result<Vec<Placed>, OutOfMemory>
+    pub(crate) fn paid_order(&self, alloc: Global) -> Result<Vec<Placed>, OutOfMemory>
         ensures { IfOk result (λ order. (h : List EventOf) → IsRight (known_of self.now) h → IsLegalOrderAs Mutex h order.items) }
     {
         let mut order = Vec::from_slice(alloc, self.order.as_slice())?;
         self.acquires.settle(&mut order);
         self.releases.settle(&mut order);
-        placed(alloc, order.as_slice())
+        list_placed(alloc, order.as_slice())
     }
 }

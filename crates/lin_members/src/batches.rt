@@ -278,7 +278,7 @@ fn first_small(batches: &[Rc<Batch>], count: usize) -> usize {
 }
 
 /// What stands from the place on.
-fn later(batches: &[Rc<Batch>], from: usize) -> &[Rc<Batch>]
+fn suffix_from(batches: &[Rc<Batch>], from: usize) -> &[Rc<Batch>]
     ensures { result.now ≡ drop from batches.now }
 {
     batches.get(from..).unwrap_or(&[])
@@ -293,7 +293,7 @@ pub(crate) fn put_aside(
     ensures { OnOk result (all_of batches.new.items ≡ all_of batches.old.items ++ offers.now) }
 {
     let from = first_small(batches.as_slice(), offers.len());
-    let one = one_of(alloc, later(batches.as_slice(), from), offers)?;
+    let one = one_of(alloc, suffix_from(batches.as_slice(), from), offers)?;
     let batch = Rc::new(alloc, one)?;
     batches.truncate(from);
     push_batch(batches, batch)?;

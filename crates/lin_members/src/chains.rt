@@ -117,7 +117,7 @@ impl Chains {
     }
 
     /// The rounds one after the other.
-    pub(crate) fn joined(&self, alloc: Global) -> Result<Vec<Placed>, OutOfMemory>
+    pub(crate) fn join(&self, alloc: Global) -> Result<Vec<Placed>, OutOfMemory>
         ensures { IfOk result (λ order. (rounds : List (List PlacedOf)) → AreChained self.now rounds → order.items ≡ joined_of rounds) }
     {
         let mut order = Vec::with_capacity(alloc, self.links.len())?;

@@ -366,7 +366,7 @@ fn pruned_in_order<O: SeqObject>(
 }
 
 /// The members of which no other one is above any.
-pub fn pruned<O: SeqObject>(
+pub fn prune<O: SeqObject>(
     object: &O,
     pending: &Pending,
     members: Vec<Member<O::State>>,

@@ -178,7 +178,7 @@ pub fn taken_out<O: SeqObject>(
 
 /// A node more under the parent.
 #[inline(always)]
-fn pushed(
+fn push_node(
     parent: u32,
     placed: Placed,
     spot: Option<usize>,
@@ -207,7 +207,7 @@ pub fn in_round(
     ensures until { IfOk result (λ next. next.until ≡ path.until) }
     ensures node { IfOk result (λ next. IsNodeOf nodes.new next.node path.node (placed, Some round)) }
 {
-    let node = pushed(path.node, placed, Some(round), nodes)?;
+    let node = push_node(path.node, placed, Some(round), nodes)?;
     Ok(Path { node, ..path })
 }
 
@@ -231,7 +231,7 @@ fn in_next_round(path: Path, placed: Placed, nodes: &mut RoundNodes) -> Result<P
     ensures node { IfOk result (λ next. IsNodeOf nodes.new next.node path.node (placed, None)) }
 {
     let next = longer(path)?;
-    let node = pushed(path.node, placed, None, nodes)?;
+    let node = push_node(path.node, placed, None, nodes)?;
     Ok(Path { node, ..next })
 }
 
@@ -259,7 +259,7 @@ pub fn put_ahead(path: Path, placed: Placed, nodes: &mut RoundNodes) -> Result<P
 {
     let next = longer(path)?;
     // There is no such round, so it is put ahead.
-    let node = pushed(path.node, placed, Some(next.round as usize), nodes)?;
+    let node = push_node(path.node, placed, Some(next.round as usize), nodes)?;
     Ok(Path { node, ..next })
 }
 
@@ -319,7 +319,7 @@ pub fn bare<O: SeqObject>(
 }
 
 /// The path with the operation, put in the round, or behind all where none is given.
-fn continued(
+fn extend_path(
     path: Path,
     placed: Placed,
     spot: Option<usize>,
@@ -347,7 +347,7 @@ pub fn bare_next<S: Eq + Hash + Drop>(
     ensures same { IfOk result (λ next. next.0 ≡ member_at config []) }
     ensures continued { IfOk result (λ next. Continues nodes.new path next.1 placed spot) }
 {
-    let path = continued(path, placed, spot, nodes)?;
+    let path = extend_path(path, placed, spot, nodes)?;
     Ok(Member {
         config,
         offers: Offers::none(),

@@ -3,7 +3,7 @@ ghost use Rattle.std.specs.Prelude.{◌≡◌, ◌<◌, ◌≤◌, ◌++◌, IfO
 ghost use Rattle.lin_members.specs.Parts.{key_of, shows, IsParted};
 ghost use Rattle.lin_members.specs.Searching.{IsPruned};
 
-use crate::domination::pruned;
+use crate::domination::prune;
 use crate::members::{Member, push_member};
 use lin_events::OutOfMemory;
 use lin_frontier::{Config, Pending};
@@ -37,7 +37,7 @@ fn shows_bit<S: Eq + Hash>(pending: &Pending, member: &Member<S>, bit: u32) -> b
 }
 
 /// The members whose keys have the bit, and the others.
-fn parted<S: Eq + Hash + Drop>(
+fn part_by_bit<S: Eq + Hash + Drop>(
     alloc: Global,
     pending: &Pending,
     members: Vec<Member<S>>,
@@ -60,7 +60,7 @@ fn parted<S: Eq + Hash + Drop>(
 }
 
 /// Puts the others last.
-fn joined<S: Eq + Hash + Drop>(
+fn join<S: Eq + Hash + Drop>(
     members: Vec<Member<S>>,
     others: Vec<Member<S>>,
 ) -> Result<Vec<Member<S>>, OutOfMemory>
@@ -86,13 +86,13 @@ fn pruned_apart<O: SeqObject>(
     ensures { IfOk result (λ out. IsPruned (O.observing object.now) pending.now members.items out.items) }
 {
     if bits == 0 || members.len() <= FEW {
-        return Ok(pruned(object, pending, members));
+        return Ok(prune(object, pending, members));
     }
     let bit = bits - 1;
-    let (ones, zeros) = parted(alloc, pending, members, bit)?;
+    let (ones, zeros) = part_by_bit(alloc, pending, members, bit)?;
     let kept = pruned_apart(object, alloc, pending, ones, bit)?;
     let others = pruned_apart(object, alloc, pending, zeros, bit)?;
-    let out = joined(kept, others)?;
+    let out = join(kept, others)?;
     Ok(out)
 }
 

@@ -175,7 +175,7 @@ impl RoundNodes {
     {
         let entries = self.entries(alloc, id)?;
         let rounds = Chains::of(alloc, entries)?;
-        let order = rounds.joined(alloc)?;
+        let order = rounds.join(alloc)?;
         Ok(order)
     }
 }

@@ -105,7 +105,7 @@ impl Search {
     fn put_ok(&mut self, at: usize, item: Item) -> Result<(), OutOfMemory> {
         self.put = self.put.saturating_add(1);
         match self.lines.get_mut(&item) {
-            Some(line) => line.returned(at, self.puts),
+            Some(line) => line.note_return(at, self.puts),
             None => Ok(()),
         }
     }
@@ -123,15 +123,15 @@ impl Search {
         let Some(line) = self.lines.get_mut(&item) else {
             return Ok(None);
         };
-        line.taken(at, rank)?;
+        line.note_taking(at, rank)?;
         Ok(
-            line.overtaken(self.takes)
+            line.find_overtaken(self.takes)
                 .map(|(from, places)| RankWindow { item, from, places }),
         )
     }
 
     /// The operation returned with the reply; whether an item is overtaken.
-    fn returned(
+    fn note_return(
         &mut self,
         alloc: Global,
         at: usize,
@@ -159,7 +159,7 @@ impl Search {
             PendingCall::Put(item, at) => {
                 self.puts = self.puts.saturating_sub(1);
                 if let Some(line) = self.lines.get_mut(&item) {
-                    line.failed(at);
+                    line.note_failure(at);
                 }
             }
             PendingCall::Take(_, _) => {
@@ -183,7 +183,7 @@ impl Search {
             return Ok(None);
         };
         match &event.body {
-            Body::Ok(_, reply) => self.returned(alloc, at, pending, reply),
+            Body::Ok(_, reply) => self.note_return(alloc, at, pending, reply),
             Body::Fail(_) => {
                 self.fail(pending);
                 Ok(None)
@@ -194,7 +194,10 @@ impl Search {
 }
 
 /// The first event with which an item is overtaken, as far as is seen, and how.
-fn sought(alloc: Global, events: &[Event]) -> Result<Option<(usize, RankWindow)>, OutOfMemory> {
+fn find_overtaking(
+    alloc: Global,
+    events: &[Event],
+) -> Result<Option<(usize, RankWindow)>, OutOfMemory> {
     let mut search = Search::new(alloc);
     for (at, event) in events.iter().enumerate() {
         if let Some(window) = search.take_in(alloc, at, event)? {
@@ -213,7 +216,7 @@ pub fn rank_failure(alloc: Global, events: &[Event]) -> Result<Option<usize>, Ou
     ensures inside { IfOk result (λ found. IfSome found (λ at. at < length events.now)) }
     ensures overtaken { IfOk result (λ found. IfSome found (λ at. IsOvertakenAt events.now at)) }
 {
-    let Some((at, window)) = sought(alloc, events)? else {
+    let Some((at, window)) = find_overtaking(alloc, events)? else {
         return Ok(None);
     };
     if at >= events.len() {

@@ -48,13 +48,13 @@ impl RankLine {
     }
 
     /// One returned there, so many were invoked before.
-    pub fn returned(&mut self, at: usize, rank: usize) -> Result<(), OutOfMemory> {
+    pub fn note_return(&mut self, at: usize, rank: usize) -> Result<(), OutOfMemory> {
         self.ended.push(Bound { rank, at })?;
         Ok(())
     }
 
     /// The one that was invoked there failed.
-    pub fn failed(&mut self, at: usize) {
+    pub fn note_failure(&mut self, at: usize) {
         let index = self.puts.partition_point(|bound| bound.at < at);
         if index < self.puts.len() {
             self.puts.remove(index);
@@ -62,7 +62,7 @@ impl RankLine {
     }
 
     /// A dequeue that was invoked there took the item out; so many others that took something out had returned by then.
-    pub fn taken(&mut self, at: usize, rank: usize) -> Result<(), OutOfMemory> {
+    pub fn note_taking(&mut self, at: usize, rank: usize) -> Result<(), OutOfMemory> {
         let count = self.takes.len();
         self.takes.push(Bound { rank, at })?;
         let mut index = count;
@@ -86,7 +86,7 @@ impl RankLine {
     }
 
     /// Where to begin with those dequeues of which more have their ranks below this one than enqueues can have such ranks, and what bounds them.
-    pub fn overtaken(&self, high: usize) -> Option<(usize, RankPlaces)> {
+    pub fn find_overtaken(&self, high: usize) -> Option<(usize, RankPlaces)> {
         let count = self.takes.len();
         let below = first_from(&self.puts, high);
         for index in (count.saturating_sub(FAR)..count).rev() {

@@ -14,7 +14,7 @@ use lin_events::{Call, Event, Item, Reply, Val};
 use lin_order::{call_at, is_failed, ok_end};
 
 /// The item of the operation at the place, if it is an enqueue.
-fn enqueued(events: &[Event], at: usize) -> Option<Item>
+fn item_of_enqueue(events: &[Event], at: usize) -> Option<Item>
     ensures { MatchOption result ((item : ItemOf) → IsCall events.now at (Enqueue item) → ⊥) (λ item. IsCall events.now at (Enqueue item)) }
 {
     match call_at(events, at) {
@@ -37,7 +37,7 @@ pub fn may_put(events: &[Event], ends: &[Option<usize>], at: usize) -> bool
     requires within { at < length events.now }
     ensures { result ≡ false → MayPut events.now at → ⊥ }
 {
-    match enqueued(events, at) {
+    match item_of_enqueue(events, at) {
         Some(_) => !is_failed(events, ends, at),
         None => false,
     }
@@ -49,7 +49,7 @@ pub fn may_put_item(events: &[Event], ends: &[Option<usize>], at: usize, item: I
     requires within { at < length events.now }
     ensures { result ≡ false → MayPutItem events.now item at → ⊥ }
 {
-    match enqueued(events, at) {
+    match item_of_enqueue(events, at) {
         Some(other) => other == item && !is_failed(events, ends, at),
         None => false,
     }
@@ -61,7 +61,7 @@ pub fn put_end(events: &[Event], ends: &[Option<usize>], at: usize) -> Option<us
     requires within { at < length events.now }
     ensures { IfSome result (λ end. IsEnqueue events.now at × ((reply : ReplyOf) × IsOk events.now at end reply)) }
 {
-    let Some(_) = enqueued(events, at) else {
+    let Some(_) = item_of_enqueue(events, at) else {
         return None;
     };
     match ok_end(events, ends, at) {

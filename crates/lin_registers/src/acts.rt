@@ -15,7 +15,7 @@ pub enum Act {
 
 impl Act {
     /// Of an update what the register holds after it, if it can be taken where the register holds this.
-    pub fn after(self, held: Val) -> Option<Val> {
+    pub fn value_after(self, held: Val) -> Option<Val> {
         match self {
             Act::Write(value) => Some(value),
             Act::Cas(from, to) if from == held => Some(to),
@@ -24,7 +24,7 @@ impl Act {
     }
 
     /// What an update leaves in the register.
-    pub fn left(self) -> Option<Val> {
+    pub fn value_left(self) -> Option<Val> {
         match self {
             Act::Write(value) | Act::Cas(_, value) => Some(value),
             Act::Read(_) => None,
@@ -32,7 +32,7 @@ impl Act {
     }
 
     /// What the register has to hold before it.
-    pub fn found(self) -> Option<Val> {
+    pub fn value_needed(self) -> Option<Val> {
         match self {
             Act::Read(value) | Act::Cas(value, _) => Some(value),
             Act::Write(_) => None,
@@ -50,7 +50,7 @@ impl Act {
     }
 
     /// What the register holds behind it.
-    pub fn held(self) -> Val {
+    pub fn value_behind(self) -> Val {
         match self {
             Act::Read(value) | Act::Write(value) | Act::Cas(_, value) => value,
         }
@@ -152,7 +152,11 @@ pub fn act_of(call: &Call) -> Option<Act> {
 
 impl Acts {
     /// Those that are open where the events begin, and those of the events, whose places are counted behind them.
-    pub fn behind(alloc: Global, open: &[Waiting], events: &[Event]) -> Result<Acts, OutOfMemory> {
+    pub fn from_events(
+        alloc: Global,
+        open: &[Waiting],
+        events: &[Event],
+    ) -> Result<Acts, OutOfMemory> {
         let count = open.len().saturating_add(events.len());
         let mut acts = Acts {
             moments: Vec::with_capacity(alloc, count)?,
@@ -298,7 +302,7 @@ impl Acts {
         let mut needed = ValuePlaces::new(alloc);
         for at in 0..self.moments.len() {
             self.note_return(at, &left, &mut needed)?;
-            if let Some(value) = self.act(at).and_then(Act::left) {
+            if let Some(value) = self.act(at).and_then(Act::value_left) {
                 left.put(value, at)?;
             }
         }
@@ -322,7 +326,7 @@ impl Acts {
         if let Some(moment) = self.moments.get_mut(begin) {
             moment.last = at;
         }
-        let Some(value) = self.act(begin).and_then(Act::found) else {
+        let Some(value) = self.act(begin).and_then(Act::value_needed) else {
             return Ok(());
         };
         if let Some(moment) = self.moments.get_mut(begin) {
@@ -349,7 +353,7 @@ impl Acts {
         if self.has_returned(at) {
             return;
         }
-        let Some(value) = self.act(at).and_then(Act::left) else {
+        let Some(value) = self.act(at).and_then(Act::value_left) else {
             return;
         };
         let until = needed.get(value);
@@ -362,7 +366,7 @@ impl Acts {
     }
 
     /// Where the operation that was invoked there is needed no longer.
-    pub fn last(&self, at: usize) -> usize {
+    pub fn last_need(&self, at: usize) -> usize {
         self.moments.get(at).map_or(0, |moment| moment.last)
     }
 

@@ -9,7 +9,7 @@ ghost use Rattle.std.specs.Prelude.{◌≡◌, ◌<◌, ◌≤◌};
 
 use crate::deeds::{Configuration, Deed, NO_GAP, OpenDeed, WhichGap, WriteGap, code_of};
 use crate::placings::{END, Placings};
-use crate::returns::{FAILED, NEVER, OPEN, bit, lowest, returns_of};
+use crate::returns::{FAILED, NEVER, OPEN, bit, lowest_slot, returns_of};
 use crate::tries::tick_tries;
 use lin_events::{Body, Call, Event, Meter, OutOfMemory, Reply, Val};
 use lin_order::Placed;
@@ -130,7 +130,7 @@ impl<'a> Ahead<'a> {
         if self.used == u64::MAX {
             return Ok(false);
         }
-        let slot = lowest(!self.used);
+        let slot = lowest_slot(!self.used);
         if end == NEVER {
             self.crashed |= bit(slot);
         } else if let Some(mate) = self.returns.get_mut(end as usize) {
@@ -323,7 +323,7 @@ impl<'a> Ahead<'a> {
         }
         let mut taken = configuration.placed | bit(slot);
         let mut left = [0; DEEP];
-        left[0] = self.leaving(goal.found, gap.until, taken);
+        left[0] = self.updates_leaving(goal.found, gap.until, taken);
         let mut depth: usize = 0;
         for _ in 0..WAYS {
             let rest = left[depth & 3];
@@ -335,7 +335,7 @@ impl<'a> Ahead<'a> {
                 taken &= !bit(way[depth & 3]);
                 continue;
             }
-            let other = lowest(rest);
+            let other = lowest_slot(rest);
             left[depth & 3] = rest & rest.wrapping_sub(1);
             way[depth & 3] = other;
             let is_write = self.writes & bit(other) != 0;
@@ -347,7 +347,7 @@ impl<'a> Ahead<'a> {
             } else if depth < 3 {
                 taken |= bit(other);
                 depth += 1;
-                left[depth & 3] = self.leaving(needed, gap.until, taken);
+                left[depth & 3] = self.updates_leaving(needed, gap.until, taken);
             }
         }
         Ok(())
@@ -355,14 +355,14 @@ impl<'a> Ahead<'a> {
 
     /// The open updates that leave the value, and were invoked before the place. Of those that do the same the one that returns first.
     #[inline(always)]
-    fn leaving(&self, value: u64, until: u32, taken: u64) -> u64 {
+    fn updates_leaving(&self, value: u64, until: u32, taken: u64) -> u64 {
         let mut leaving = 0;
         let mut rest = (self.writes | self.sets) & !taken;
         for _ in 0..OPEN {
             if rest == 0 {
                 break;
             }
-            let slot = lowest(rest);
+            let slot = lowest_slot(rest);
             rest &= rest.wrapping_sub(1);
             if self.open[slot].left == value && self.open[slot].at < until {
                 leaving = self.first_of(leaving, slot);
@@ -383,7 +383,7 @@ impl<'a> Ahead<'a> {
             if rest == 0 {
                 break;
             }
-            let other = lowest(rest);
+            let other = lowest_slot(rest);
             rest &= rest.wrapping_sub(1);
             if self.open[other].found == open.found && (self.sets & bit(other) != 0) == is_set {
                 return if self.open[other].end <= open.end {
@@ -493,14 +493,14 @@ impl<'a> Ahead<'a> {
             next.narrow = gap;
         } else {
             next.wide = gap;
-            self.split(&mut next, slot, old);
+            self.split_gap(&mut next, slot, old);
         }
         self.see(next, update.left, old.until)
     }
 
     /// Keeps the gap ahead of the write that was put in it, where a compare-and-set needs that.
     #[inline(always)]
-    fn split(&self, configuration: &mut Configuration, slot: usize, old: WriteGap)
+    fn split_gap(&self, configuration: &mut Configuration, slot: usize, old: WriteGap)
         requires { slot < 64 }
     {
         if self.sets != 0
@@ -532,7 +532,7 @@ impl<'a> Ahead<'a> {
             if rest == 0 {
                 break;
             }
-            let slot = lowest(rest);
+            let slot = lowest_slot(rest);
             rest &= rest.wrapping_sub(1);
             if self.open[slot].found == gap.held && self.open[slot].at < gap.until {
                 return true;
@@ -557,7 +557,7 @@ impl<'a> Ahead<'a> {
             if rest == 0 {
                 break;
             }
-            let slot = lowest(rest);
+            let slot = lowest_slot(rest);
             rest &= rest.wrapping_sub(1);
             let read = self.open[slot];
             if read.found == value && read.at < until {
@@ -644,7 +644,7 @@ impl<'a> Ahead<'a> {
             if rest == 0 {
                 break;
             }
-            let slot = lowest(rest);
+            let slot = lowest_slot(rest);
             rest &= rest.wrapping_sub(1);
             if self.open[slot].at >= configuration.wide.until {
                 return false;
@@ -669,7 +669,7 @@ impl<'a> Ahead<'a> {
             return Ok(None);
         };
         self.placings
-            .spelled(alloc, count, self.events, &self.returns)
+            .order_of_line(alloc, count, self.events, &self.returns)
     }
 }
 

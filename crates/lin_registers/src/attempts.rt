@@ -4,7 +4,7 @@
 ghost use Rattle.std.specs.Prelude.{◌≡◌, ◌≤◌};
 
 use crate::acts::{Act, Acts, Waiting};
-use crate::drafts::{Draft, DraftSpot, DraftStep, Gap, count_as_wide, widest};
+use crate::drafts::{Draft, DraftSpot, DraftStep, Gap, count_as_wide, widest_gap};
 use crate::lines::LinkedLine;
 use crate::paths::paths;
 use crate::pool::{Offer, OpenReturn, ReturnPool, has_operation};
@@ -74,7 +74,7 @@ fn place_in(draft: &Draft, at: usize, gap: &Gap) -> Slot {
         held: gap.held,
         until: gap.until,
         back: if gap.is_free { None } else { Some(gap.held) },
-        takes_writes: !gap.is_free || widest(&draft.gaps) == Some(at),
+        takes_writes: !gap.is_free || widest_gap(&draft.gaps) == Some(at),
     }
 }
 
@@ -96,21 +96,21 @@ impl<'a> Attempt<'a> {
     /// The operations in a legal order that goes on from the first one, if one is found.
     fn run(&mut self, first: &Draft) -> Result<Option<Vec<usize>>, OutOfMemory> {
         let mut drafts = Vec::new(self.alloc);
-        drafts.push(self.copied(first)?)?;
+        drafts.push(self.copy_draft(first)?)?;
         for at in 0..self.acts.len() {
-            drafts = self.after(drafts, at)?;
+            drafts = self.drafts_after(drafts, at)?;
             if drafts.is_empty() || self.is_over() {
                 return Ok(None);
             }
         }
         match drafts.first() {
-            Some(draft) => self.spelled(draft.step),
+            Some(draft) => self.operations_of(draft.step),
             None => Ok(None),
         }
     }
 
     /// An equal order.
-    fn copied(&mut self, draft: &Draft) -> Result<Draft, OutOfMemory> {
+    fn copy_draft(&mut self, draft: &Draft) -> Result<Draft, OutOfMemory> {
         let mut copy = match self.spare.pop() {
             Some(spare) => spare,
             None => Draft::new(self.alloc, draft.last, draft.held),
@@ -127,20 +127,20 @@ impl<'a> Attempt<'a> {
     }
 
     /// The orders after the event.
-    fn after(&mut self, drafts: Vec<Draft>, at: usize) -> Result<Vec<Draft>, OutOfMemory> {
+    fn drafts_after(&mut self, drafts: Vec<Draft>, at: usize) -> Result<Vec<Draft>, OutOfMemory> {
         let mut drafts = drafts;
         self.now = at;
         if let Some(act) = self.acts.act(at) {
-            self.invoked(&mut drafts, at, act)?;
+            self.begin_operation(&mut drafts, at, act)?;
         }
         match self.acts.begin(at) {
-            Some(begin) => self.completed(drafts, begin),
+            Some(begin) => self.complete_operation(drafts, begin),
             None => Ok(drafts),
         }
     }
 
     /// The operation is open from here on.
-    fn invoked(
+    fn begin_operation(
         &mut self,
         drafts: &mut Vec<Draft>,
         operation: usize,
@@ -149,7 +149,7 @@ impl<'a> Attempt<'a> {
         let open = OpenReturn {
             operation,
             act,
-            last: self.acts.last(operation),
+            last: self.acts.last_need(operation),
         };
         if self.acts.has_returned(operation) {
             self.pool.open.push(open)?;
@@ -170,7 +170,7 @@ impl<'a> Attempt<'a> {
     ) -> Result<(), OutOfMemory> {
         for draft in drafts.iter_mut() {
             if open.act == Act::Read(draft.held) && !draft.has(open) {
-                self.step(draft, open.operation, DraftSpot::behind(draft.last))?;
+                self.step(draft, open.operation, DraftSpot::behind_update(draft.last))?;
                 draft.note(open.operation, open.act)?;
             }
         }
@@ -214,7 +214,7 @@ impl<'a> Attempt<'a> {
                 && !draft.has(open)
             {
                 let open = *open;
-                self.step(draft, open.operation, DraftSpot::behind(update))?;
+                self.step(draft, open.operation, DraftSpot::behind_update(update))?;
                 draft.note(open.operation, open.act)?;
             }
         }
@@ -255,7 +255,7 @@ impl<'a> Attempt<'a> {
         if let Some(old) = draft.gaps.get_mut(at) {
             old.held = value;
         }
-        self.step(draft, offer.operation, DraftSpot::before(gap.next))?;
+        self.step(draft, offer.operation, DraftSpot::before_update(gap.next))?;
         self.tell(draft, value, offer.operation, gap.until)
     }
 
@@ -267,7 +267,7 @@ impl<'a> Attempt<'a> {
         offers: &[Offer],
     ) -> Result<(), OutOfMemory> {
         for offer in offers {
-            let Some(value) = offer.act.left() else {
+            let Some(value) = offer.act.value_left() else {
                 continue;
             };
             draft.take(offer)?;
@@ -288,7 +288,7 @@ impl<'a> Attempt<'a> {
         then: &[Offer],
         found: &mut Vec<Draft>,
     ) -> Result<(), OutOfMemory> {
-        let mut next = self.copied(draft)?;
+        let mut next = self.copy_draft(draft)?;
         self.put_all(&mut next, place, first)?;
         self.put_all(&mut next, place, then)?;
         found.push(next)?;
@@ -303,7 +303,7 @@ impl<'a> Attempt<'a> {
         offers: &[Offer],
         found: &mut Vec<Draft>,
     ) -> Result<(), OutOfMemory> {
-        let Some(left) = offers.last().and_then(|offer| offer.act.left()) else {
+        let Some(left) = offers.last().and_then(|offer| offer.act.value_left()) else {
             return Ok(());
         };
         let back = place.back.unwrap_or(left);
@@ -345,7 +345,7 @@ impl<'a> Attempt<'a> {
         found: &mut Vec<Draft>,
     ) -> Result<(), OutOfMemory> {
         let update = goal.offer();
-        let needed = goal.act.found().unwrap_or(place.held);
+        let needed = goal.act.value_needed().unwrap_or(place.held);
         if needed == place.held {
             return self.follow(draft, place, update.as_slice(), found);
         }
@@ -390,12 +390,12 @@ impl<'a> Attempt<'a> {
     }
 
     /// The orders after the operation returned.
-    fn completed(
+    fn complete_operation(
         &mut self,
         drafts: Vec<Draft>,
         operation: usize,
     ) -> Result<Vec<Draft>, OutOfMemory> {
-        let Some(goal) = self.pool.named(operation) else {
+        let Some(goal) = self.pool.open_return_of(operation) else {
             return Ok(drafts);
         };
         let mut found = Vec::new(self.alloc);
@@ -412,12 +412,12 @@ impl<'a> Attempt<'a> {
         for draft in found.iter_mut() {
             draft.close(&goal);
         }
-        self.best(found)
+        self.best_drafts(found)
     }
 
     /// Gaps go in which nothing has to be put, but the widest one of those where any update can be put.
-    fn thin(&self, draft: &mut Draft) {
-        let least = self.pool.least();
+    fn thin_gaps(&self, draft: &mut Draft) {
+        let least = self.pool.first_open();
         draft.gaps.retain(|gap| gap.until > least);
         draft
             .gaps
@@ -438,7 +438,7 @@ impl<'a> Attempt<'a> {
     /// Whether the gap is needed beside the first ones, of which so many are kept.
     fn is_needed(&self, draft: &Draft, count: usize, gap: &Gap) -> bool {
         let kept = &draft.gaps[..count.min(draft.gaps.len())];
-        if gap.is_free && widest(kept).is_none() {
+        if gap.is_free && widest_gap(kept).is_none() {
             return true;
         }
         count_as_wide(kept, gap) < LIKE && self.pool.is_useful(draft, gap)
@@ -447,7 +447,7 @@ impl<'a> Attempt<'a> {
     /// Whether an open operation can be placed no more, since what it needs isn't left any more.
     fn is_dead(&self, draft: &Draft) -> bool {
         for open in &self.pool.open {
-            if let Some(value) = open.act.found()
+            if let Some(value) = open.act.value_needed()
                 && self.acts.source(open.operation) <= self.now
                 && !draft.has(open)
                 && !is_held(draft, open, value)
@@ -460,7 +460,7 @@ impl<'a> Attempt<'a> {
     }
 
     /// The orders that cost least of those with which there may be one of the history, without those for which others serve.
-    fn best(&mut self, drafts: Vec<Draft>) -> Result<Vec<Draft>, OutOfMemory> {
+    fn best_drafts(&mut self, drafts: Vec<Draft>) -> Result<Vec<Draft>, OutOfMemory> {
         let mut sorted = drafts;
         sorted.sort_unstable_by_key(|draft| usize::MAX - draft.cost());
         let mut kept: Vec<Draft> = Vec::new(self.alloc);
@@ -477,13 +477,13 @@ impl<'a> Attempt<'a> {
 
     /// Whether there may be an order of the history with this one, and none of those that are kept serves for it.
     fn is_worth(&mut self, draft: &mut Draft, kept: &[Draft]) -> bool {
-        self.thin(draft);
+        self.thin_gaps(draft);
         self.looks = self.looks.saturating_add(kept.len());
         !self.is_dead(draft) && !is_served(kept, draft)
     }
 
     /// The operations in the order that ends with the step.
-    fn spelled(&self, step: u32) -> Result<Option<Vec<usize>>, OutOfMemory> {
+    fn operations_of(&self, step: u32) -> Result<Option<Vec<usize>>, OutOfMemory> {
         let mut chain = Vec::new(self.alloc);
         let mut at = step;
         for _ in 0..self.steps.len() {
@@ -530,7 +530,11 @@ fn is_served(drafts: &[Draft], draft: &Draft) -> bool {
 }
 
 /// The operations with their replies.
-fn placed(alloc: Global, acts: &Acts, operations: &[usize]) -> Result<Vec<Placed>, OutOfMemory> {
+fn attach_replies(
+    alloc: Global,
+    acts: &Acts,
+    operations: &[usize],
+) -> Result<Vec<Placed>, OutOfMemory> {
     let mut order = Vec::new(alloc);
     for at in operations {
         if let Some(act) = acts.act(*at) {
@@ -544,7 +548,7 @@ fn placed(alloc: Global, acts: &Acts, operations: &[usize]) -> Result<Vec<Placed
 }
 
 /// An order of the operations that goes on from the first one, if a search finds one that keeps so many beginnings.
-fn attempted(
+fn attempt_order(
     alloc: Global,
     acts: &Acts,
     first: &Draft,
@@ -558,13 +562,18 @@ fn attempted(
     let found = attempt.run(first);
     tick_tries(meter, attempt.steps.len());
     match found? {
-        Some(operations) => Ok(Some(placed(alloc, acts, &operations)?)),
+        Some(operations) => Ok(Some(attach_replies(alloc, acts, &operations)?)),
         None => Ok(None),
     }
 }
 
 /// What was placed where the events begin.
-fn begun(alloc: Global, acts: &Acts, held: Val, open: &[Waiting]) -> Result<Draft, OutOfMemory> {
+fn first_draft(
+    alloc: Global,
+    acts: &Acts,
+    held: Val,
+    open: &[Waiting],
+) -> Result<Draft, OutOfMemory> {
     let mut draft = Draft::new(alloc, acts.len(), held);
     for (at, waiting) in open.iter().enumerate() {
         if waiting.reply.is_some()
@@ -589,20 +598,20 @@ pub fn register_order_from(
     ensures tries { meter.old.tries ≤ meter.new.tries }
     ensures others { meter.new ≡ record meter.old { tries = meter.new.tries } }
 {
-    let mut acts = Acts::behind(alloc, open, events)?;
+    let mut acts = Acts::from_events(alloc, open, events)?;
     if !acts.takes(open) {
         return Ok(None);
     }
     acts.look_ahead(alloc)?;
-    let first = begun(alloc, &acts, held, open)?;
-    if let Some(order) = attempted_narrowly(alloc, &acts, &first, meter)? {
+    let first = first_draft(alloc, &acts, held, open)?;
+    if let Some(order) = attempt_narrowly(alloc, &acts, &first, meter)? {
         return Ok(Some(order));
     }
-    attempted_widely(alloc, &acts, &first, meter)
+    attempt_widely(alloc, &acts, &first, meter)
 }
 
 /// An order of the operations that goes on from the first one, if a search finds one that keeps few beginnings.
-fn attempted_narrowly(
+fn attempt_narrowly(
     alloc: Global,
     acts: &Acts,
     first: &Draft,
@@ -611,14 +620,14 @@ fn attempted_narrowly(
     ensures tries { meter.old.tries ≤ meter.new.tries }
     ensures others { meter.new ≡ record meter.old { tries = meter.new.tries } }
 {
-    if let Some(order) = attempted(alloc, acts, first, FEW.0, meter)? {
+    if let Some(order) = attempt_order(alloc, acts, first, FEW.0, meter)? {
         return Ok(Some(order));
     }
-    attempted(alloc, acts, first, FEW.1, meter)
+    attempt_order(alloc, acts, first, FEW.1, meter)
 }
 
 /// The same with more beginnings.
-fn attempted_widely(
+fn attempt_widely(
     alloc: Global,
     acts: &Acts,
     first: &Draft,
@@ -627,13 +636,13 @@ fn attempted_widely(
     ensures tries { meter.old.tries ≤ meter.new.tries }
     ensures others { meter.new ≡ record meter.old { tries = meter.new.tries } }
 {
-    if let Some(order) = attempted(alloc, acts, first, WIDTHS.0, meter)? {
+    if let Some(order) = attempt_order(alloc, acts, first, WIDTHS.0, meter)? {
         return Ok(Some(order));
     }
-    if let Some(order) = attempted(alloc, acts, first, WIDTHS.1, meter)? {
+    if let Some(order) = attempt_order(alloc, acts, first, WIDTHS.1, meter)? {
         return Ok(Some(order));
     }
-    attempted(alloc, acts, first, WIDTHS.2, meter)
+    attempt_order(alloc, acts, first, WIDTHS.2, meter)
 }
 
 /// An order of the events of a register, if a search finds one. Where operations are found that conflict, only one that keeps few beginnings
@@ -646,14 +655,14 @@ pub fn register_order(
     ensures tries { meter.old.tries ≤ meter.new.tries }
     ensures others { meter.new ≡ record meter.old { tries = meter.new.tries } }
 {
-    let mut acts = Acts::behind(alloc, &[], events)?;
+    let mut acts = Acts::from_events(alloc, &[], events)?;
     acts.look_ahead(alloc)?;
     let first = Draft::new(alloc, acts.len(), Val::Nil);
-    if let Some(order) = attempted_narrowly(alloc, &acts, &first, meter)? {
+    if let Some(order) = attempt_narrowly(alloc, &acts, &first, meter)? {
         return Ok(Some(order));
     }
     if register_failure(alloc, events)?.is_some() {
         return Ok(None);
     }
-    attempted_widely(alloc, &acts, &first, meter)
+    attempt_widely(alloc, &acts, &first, meter)
 }

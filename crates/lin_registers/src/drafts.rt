@@ -76,18 +76,18 @@ fn renew<T: Copy>(elements: &mut Vec<T>, others: &[T]) -> Result<(), OutOfMemory
 
 impl DraftSpot {
     /// Behind the update, and the reads that were put there.
-    pub fn behind(update: usize) -> DraftSpot {
-        DraftSpot::Behind(named(update))
+    pub fn behind_update(update: usize) -> DraftSpot {
+        DraftSpot::Behind(name_of(update))
     }
 
     /// Before the update.
-    pub fn before(update: usize) -> DraftSpot {
-        DraftSpot::Before(named(update))
+    pub fn before_update(update: usize) -> DraftSpot {
+        DraftSpot::Before(name_of(update))
     }
 }
 
 /// The operation's name in a step. No operation has the last one.
-fn named(operation: usize) -> u32 {
+fn name_of(operation: usize) -> u32 {
     u32::try_from(operation).unwrap_or(u32::MAX)
 }
 
@@ -233,7 +233,7 @@ fn has_gaps(gaps: &[Gap], others: &[Gap]) -> bool {
 }
 
 /// The widest of the gaps where any update can be put: the first such one.
-pub fn widest(gaps: &[Gap]) -> Option<usize> {
+pub fn widest_gap(gaps: &[Gap]) -> Option<usize> {
     for (at, gap) in gaps.iter().enumerate() {
         if gap.is_free {
             return Some(at);

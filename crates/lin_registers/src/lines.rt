@@ -72,7 +72,7 @@ impl LinkedLine {
     }
 
     /// The operation behind the other one, or the first one behind the end. None behind the last one.
-    pub fn after(&self, operation: usize) -> Option<usize> {
+    pub fn operation_after(&self, operation: usize) -> Option<usize> {
         let next = *self.next.get(operation)?;
         if next == self.end {
             return None;
@@ -85,7 +85,7 @@ impl LinkedLine {
         let mut operations = Vec::new(alloc);
         let mut at = self.end as usize;
         for _ in 0..self.end {
-            let Some(next) = self.after(at) else {
+            let Some(next) = self.operation_after(at) else {
                 break;
             };
             operations.push(next)?;

@@ -19,7 +19,7 @@ struct Trail {
 
 impl Trail {
     /// They and the update before them.
-    fn with(&self, alloc: Global, update: &Offer) -> Result<Vec<Offer>, OutOfMemory> {
+    fn updates_with(&self, alloc: Global, update: &Offer) -> Result<Vec<Offer>, OutOfMemory> {
         let mut updates = Vec::new(alloc);
         updates.extend_from_slice(&self.updates)?;
         updates.push(*update)?;
@@ -35,12 +35,12 @@ impl Trail {
         found: &mut Vec<Vec<Offer>>,
         next: &mut Vec<Trail>,
     ) -> Result<(), OutOfMemory> {
-        if update.act.left() != Some(self.needed)
+        if update.act.value_left() != Some(self.needed)
             || has_operation(&self.updates, update.operation)
         {
             return Ok(());
         }
-        let mut updates = self.with(alloc, update)?;
+        let mut updates = self.updates_with(alloc, update)?;
         match update.act {
             Act::Cas(needed, _) if needed != from => next.push(Trail { updates, needed })?,
             _ => {
@@ -53,7 +53,7 @@ impl Trail {
 }
 
 /// Ways that are longer by one update: those from the value are put with what is found.
-fn longer(
+fn longer_trails(
     alloc: Global,
     offers: &[Offer],
     trails: &[Trail],
@@ -88,7 +88,7 @@ pub fn paths(
         if found.len() >= ENOUGH || trails.is_empty() {
             break;
         }
-        trails = longer(alloc, offers, &trails, from, &mut found)?;
+        trails = longer_trails(alloc, offers, &trails, from, &mut found)?;
     }
     Ok(found)
 }

@@ -88,7 +88,7 @@ impl Placings {
     }
 
     /// So many operations of the line, with what they answered.
-    pub fn spelled(
+    pub fn order_of_line(
         &self,
         alloc: Global,
         count: usize,
@@ -96,7 +96,7 @@ impl Placings {
         returns: &[u32],
     ) -> Result<Option<Vec<Placed>>, OutOfMemory> {
         let mut order = Vec::with_capacity(alloc, count)?;
-        let mut at = self.after(END);
+        let mut at = self.operation_after(END);
         for _ in 0..count {
             let Some(placing) = self.all.get(at as usize) else {
                 return Ok(None);
@@ -111,7 +111,7 @@ impl Placings {
     }
 
     /// What stands behind it in the line.
-    fn after(&self, name: u32) -> u32 {
+    fn operation_after(&self, name: u32) -> u32 {
         self.all
             .get(name as usize)
             .map_or(END, |placing| placing.next)

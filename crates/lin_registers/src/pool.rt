@@ -94,7 +94,7 @@ impl OpenReturn {
 
 impl Class {
     /// The first of them that does not stand in the order.
-    fn next(&self, draft: &Draft) -> Option<usize> {
+    fn next_operation(&self, draft: &Draft) -> Option<usize> {
         self.operations.get(draft.count_of(self.name)).copied()
     }
 }
@@ -135,7 +135,7 @@ impl ReturnPool {
     }
 
     /// The open operation of this name.
-    pub fn named(&self, operation: usize) -> Option<OpenReturn> {
+    pub fn open_return_of(&self, operation: usize) -> Option<OpenReturn> {
         for open in &self.open {
             if open.operation == operation {
                 return Some(*open);
@@ -150,7 +150,7 @@ impl ReturnPool {
     }
 
     /// The first operation that is open and returns, or a place behind all.
-    pub fn least(&self) -> usize {
+    pub fn first_open(&self) -> usize {
         match self.open.first() {
             Some(open) => open.operation,
             None => usize::MAX,
@@ -187,7 +187,7 @@ impl ReturnPool {
         offers: &mut Vec<Offer>,
     ) -> Result<(), OutOfMemory> {
         for class in &self.classes {
-            if let Some(operation) = class.next(draft)
+            if let Some(operation) = class.next_operation(draft)
                 && operation < until
             {
                 let offer = Offer {
@@ -205,12 +205,12 @@ impl ReturnPool {
     /// Whether an operation other than this one can still be placed that leaves the value.
     pub fn is_left(&self, draft: &Draft, but: usize, value: Val) -> bool {
         for open in &self.open {
-            if open.operation != but && open.act.left() == Some(value) && !draft.has(open) {
+            if open.operation != but && open.act.value_left() == Some(value) && !draft.has(open) {
                 return true;
             }
         }
         for class in &self.classes {
-            if class.act.left() == Some(value) && class.next(draft).is_some() {
+            if class.act.value_left() == Some(value) && class.next_operation(draft).is_some() {
                 return true;
             }
         }
@@ -220,7 +220,10 @@ impl ReturnPool {
     /// Whether an open operation that was invoked before the place needs the value.
     fn is_wanted(&self, draft: &Draft, value: Val, until: usize) -> bool {
         for open in &self.open {
-            if open.operation < until && open.act.found() == Some(value) && !draft.has(open) {
+            if open.operation < until
+                && open.act.value_needed() == Some(value)
+                && !draft.has(open)
+            {
                 return true;
             }
         }
@@ -238,7 +241,7 @@ impl ReturnPool {
             if let Act::Cas(from, to) = class.act
                 && from == gap.held
                 && class
-                    .next(draft)
+                    .next_operation(draft)
                     .is_some_and(|operation| operation < gap.until)
                 && self.is_wanted(draft, to, gap.until)
             {

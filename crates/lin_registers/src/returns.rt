@@ -21,7 +21,7 @@ pub fn bit(slot: usize) -> u64 {
 
 /// The lowest slot of a mask.
 #[inline(always)]
-pub fn lowest(mask: u64) -> usize
+pub fn lowest_slot(mask: u64) -> usize
     ensures { result < 64 }
 {
     (mask.trailing_zeros() as usize).min(63)
@@ -67,7 +67,7 @@ impl Callers {
         let slot = if self.used & bit(guess) == 0 {
             guess
         } else if self.used != u64::MAX {
-            lowest(!self.used)
+            lowest_slot(!self.used)
         } else {
             return false;
         };

@@ -94,7 +94,7 @@ impl Zones {
 
 impl Zone {
     /// An update was invoked that leaves the value.
-    fn invoked(self, update: usize) -> Zone {
+    fn note_invocation(self, update: usize) -> Zone {
         Zone {
             count: self.count.saturating_add(1),
             sum: self.sum.saturating_add(update),
@@ -104,7 +104,7 @@ impl Zone {
     }
 
     /// It failed.
-    fn failed(self, update: usize) -> Zone {
+    fn note_failure(self, update: usize) -> Zone {
         Zone {
             count: self.count.saturating_sub(1),
             sum: self.sum.saturating_sub(update),
@@ -114,7 +114,7 @@ impl Zone {
     }
 
     /// It returned.
-    fn ended(self, at: usize) -> Zone {
+    fn note_return(self, at: usize) -> Zone {
         Zone {
             open: self.open.saturating_sub(1),
             end: at,
@@ -123,7 +123,7 @@ impl Zone {
     }
 
     /// An operation returned behind which the register held the value.
-    fn held(self, operation: usize, at: usize) -> Zone {
+    fn note_value_behind(self, operation: usize, at: usize) -> Zone {
         Zone {
             early: Some(self.early.unwrap_or((operation, at))),
             late: self.late.max(operation),
@@ -132,7 +132,7 @@ impl Zone {
     }
 
     /// An operation returned that needed the value.
-    fn needed(self, operation: usize) -> Zone {
+    fn note_value_needed(self, operation: usize) -> Zone {
         Zone {
             need: Some(self.need.unwrap_or(operation).max(operation)),
             ..self
@@ -161,7 +161,7 @@ impl Zone {
 
 impl Seen {
     /// An operation returned behind which the register held the value.
-    fn with(self, operation: usize, held: Val) -> Seen {
+    fn note_value_behind(self, operation: usize, held: Val) -> Seen {
         match self.last {
             Some((last, value)) if value == held => Seen {
                 last: Some((last.max(operation), held)),
@@ -172,7 +172,7 @@ impl Seen {
                 other: self.last,
             },
             Some(_) => Seen {
-                other: Some(later(self.other, operation, held)),
+                other: Some(later_operation(self.other, operation, held)),
                 ..self
             },
             None => Seen {
@@ -183,7 +183,7 @@ impl Seen {
     }
 
     /// The last operation behind which the register held something other than the value.
-    fn but(self, value: Val) -> Option<(usize, Val)> {
+    fn last_with_another_value(self, value: Val) -> Option<(usize, Val)> {
         match self.last {
             Some((_, held)) if held == value => self.other,
             last => last,
@@ -192,7 +192,7 @@ impl Seen {
 }
 
 /// The later one of the operations, with what the register held behind it.
-fn later(seen: Option<(usize, Val)>, operation: usize, held: Val) -> (usize, Val) {
+fn later_operation(seen: Option<(usize, Val)>, operation: usize, held: Val) -> (usize, Val) {
     match seen {
         Some((last, value)) if operation < last => (last, value),
         _ => (operation, held),
@@ -214,53 +214,57 @@ impl Search {
     }
 
     /// An update was invoked that leaves the value.
-    fn invoked(&mut self, update: usize, value: Val) -> Result<(), OutOfMemory> {
-        let zone = self.zones.get(value).invoked(update);
+    fn note_invocation(&mut self, update: usize, value: Val) -> Result<(), OutOfMemory> {
+        let zone = self.zones.get(value).note_invocation(update);
         self.zones.put(value, zone)
     }
 
     /// It failed.
-    fn failed(&mut self, update: usize, value: Val) -> Result<Option<Certificate>, OutOfMemory> {
-        let zone = self.zones.get(value).failed(update);
+    fn note_failure(
+        &mut self,
+        update: usize,
+        value: Val,
+    ) -> Result<Option<Certificate>, OutOfMemory> {
+        let zone = self.zones.get(value).note_failure(update);
         self.zones.put(value, zone)?;
-        Ok(self.certificate(self.stale(value), value))
+        Ok(self.certificate(self.stale_certificate(value), value))
     }
 
     /// A certificate of operations that touch the value, unless there is this one.
     fn certificate(&mut self, stale: Option<Certificate>, value: Val) -> Option<Certificate> {
-        let found = stale.or(unwritten(self.zones.get(value), value));
-        found.or(self.crossing(value))
+        let found = stale.or(unwritten_certificate(self.zones.get(value), value));
+        found.or(self.crossed_certificate(value))
     }
 
     /// An operation returned.
-    fn returned(
+    fn note_return(
         &mut self,
         operation: usize,
         act: Act,
         at: usize,
     ) -> Result<Option<Certificate>, OutOfMemory> {
         self.note(operation, act, at)?;
-        let stale = match act.found() {
-            Some(value) => self.stale(value),
+        let stale = match act.value_needed() {
+            Some(value) => self.stale_certificate(value),
             None => None,
         };
-        Ok(self.certificate(stale, act.held()))
+        Ok(self.certificate(stale, act.value_behind()))
     }
 
     /// Notes that an operation returned.
     fn note(&mut self, operation: usize, act: Act, at: usize) -> Result<(), OutOfMemory> {
-        if let Some(value) = act.left() {
-            let zone = self.zones.get(value).ended(at);
+        if let Some(value) = act.value_left() {
+            let zone = self.zones.get(value).note_return(at);
             self.zones.put(value, zone)?;
         }
-        if let Some(value) = act.found() {
-            let zone = self.zones.get(value).needed(operation);
+        if let Some(value) = act.value_needed() {
+            let zone = self.zones.get(value).note_value_needed(operation);
             self.zones.put(value, zone)?;
         }
-        let held = act.held();
-        let zone = self.zones.get(held).held(operation, at);
+        let held = act.value_behind();
+        let zone = self.zones.get(held).note_value_behind(operation, at);
         self.zones.put(held, zone)?;
-        self.seen = self.seen.with(operation, held);
+        self.seen = self.seen.note_value_behind(operation, held);
         self.note_recent(held, at)
     }
 
@@ -280,13 +284,13 @@ impl Search {
     }
 
     /// What the last operation that needed the value can't have found any more.
-    fn stale(&self, value: Val) -> Option<Certificate> {
+    fn stale_certificate(&self, value: Val) -> Option<Certificate> {
         let zone = self.zones.get(value);
         let operation = zone.need?;
         if zone.open > 0 {
             return None;
         }
-        let (over, held) = self.before.get(operation)?.but(value)?;
+        let (over, held) = self.before.get(operation)?.last_with_another_value(value)?;
         if zone.count > 0 && zone.end >= over {
             return None;
         }
@@ -299,7 +303,7 @@ impl Search {
     }
 
     /// A value whose operations conflict with those of this one.
-    fn crossing(&mut self, value: Val) -> Option<Certificate> {
+    fn crossed_certificate(&mut self, value: Val) -> Option<Certificate> {
         let Val::Item(item) = value else {
             return None;
         };
@@ -330,7 +334,7 @@ impl Search {
 }
 
 /// An operation that found the value, if no update leaves it.
-fn unwritten(zone: Zone, value: Val) -> Option<Certificate> {
+fn unwritten_certificate(zone: Zone, value: Val) -> Option<Certificate> {
     let (operation, _) = zone.early?;
     match value {
         Val::Item(item) if zone.count == 0 => Some(Certificate::Unwritten { operation, item }),
@@ -339,33 +343,33 @@ fn unwritten(zone: Zone, value: Val) -> Option<Certificate> {
 }
 
 /// What the operation that was invoked there leaves.
-fn left_at(events: &[Event], at: usize) -> Option<Val> {
+fn value_left_at(events: &[Event], at: usize) -> Option<Val> {
     match &events.get(at)?.body {
-        Body::Invoke(call) => act_of(call)?.left(),
+        Body::Invoke(call) => act_of(call)?.value_left(),
         _ => None,
     }
 }
 
 /// A certificate of the events up to and with this one, if none was found before.
-fn found_at(
+fn certificate_at(
     search: &mut Search,
     events: &[Event],
     acts: &Acts,
     at: usize,
 ) -> Result<Option<Certificate>, OutOfMemory> {
     search.before.push(search.seen)?;
-    if let Some(value) = left_at(events, at) {
-        search.invoked(at, value)?;
+    if let Some(value) = value_left_at(events, at) {
+        search.note_invocation(at, value)?;
     }
     if let Some(update) = acts.failure(at)
-        && let Some(value) = left_at(events, update)
+        && let Some(value) = value_left_at(events, update)
     {
-        return search.failed(update, value);
+        return search.note_failure(update, value);
     }
     if let Some(operation) = acts.begin(at)
         && let Some(act) = acts.act(operation)
     {
-        return search.returned(operation, act, at);
+        return search.note_return(operation, act, at);
     }
     Ok(None)
 }
@@ -375,11 +379,11 @@ pub fn register_failure(
     alloc: Global,
     events: &[Event],
 ) -> Result<Option<(usize, Certificate)>, OutOfMemory> {
-    let acts = Acts::behind(alloc, &[], events)?;
+    let acts = Acts::from_events(alloc, &[], events)?;
     let most = acts.len().saturating_mul(STEPS).saturating_add(FREE);
     let mut search = Search::new(alloc);
     for at in 0..acts.len() {
-        if let Some(certificate) = found_at(&mut search, events, &acts, at)? {
+        if let Some(certificate) = certificate_at(&mut search, events, &acts, at)? {
             return Ok(Some((at, certificate)));
         }
         if search.steps > most {

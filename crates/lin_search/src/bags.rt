@@ -62,7 +62,7 @@ impl Making {
         let Some(copies) = self.copies.get_mut(place) else {
             return Ok(false);
         };
-        let Some(dequeue) = copies.left(rank) else {
+        let Some(dequeue) = copies.finish_leaving(rank) else {
             return Ok(true);
         };
         if copies.inside == 0 {
@@ -103,7 +103,7 @@ impl Making {
     fn unlist(&mut self, at: usize) -> Option<usize> {
         let copies = self.copies.get_mut(*self.held.get(at)?)?;
         if copies.inside > 0 {
-            return Some(copies.lacking());
+            return Some(copies.count_not_taken());
         }
         copies.is_listed = false;
         if at < self.held.len() {
@@ -167,7 +167,7 @@ impl Making {
         match moment {
             Moment::EnqueueBegins(_, enqueue) => copies.arrive(enqueue),
             Moment::EnqueueEnds(_, enqueue) => {
-                if copies.arrived(enqueue) {
+                if copies.finish_arrival(enqueue) {
                     self.put_in(place, enqueue.begin)?;
                 }
                 Ok(())

@@ -1,5 +1,5 @@
 //! What the operations of a bag did, as far as its whole history tells. Copies of an item are alike.
-use lin_depth_first::{CallSpan, NEVER, PossibleOperation, gathered};
+use crate::operations::{CallSpan, NEVER, PossibleOperation, gather_operations};
 use lin_events::{Body, Call, Event, Item, OutOfMemory, Reply, Val};
 use std::alloc::Global;
 use std::collections::HashMap;
@@ -92,7 +92,7 @@ impl Copies {
     }
 
     /// How many of those in the bag open dequeues aren't known to take out.
-    pub fn lacking(&self) -> usize {
+    pub fn count_not_taken(&self) -> usize {
         self.inside.saturating_sub(self.leaving.len())
     }
 
@@ -107,7 +107,7 @@ impl Copies {
     }
 
     /// The enqueue returns; whether it isn't placed.
-    pub fn arrived(&mut self, enqueue: CallSpan) -> bool {
+    pub fn finish_arrival(&mut self, enqueue: CallSpan) -> bool {
         let open = self.arriving.len();
         self.arriving.retain(|other| other.begin != enqueue.begin);
         self.arriving.len() < open
@@ -134,7 +134,7 @@ impl Copies {
     }
 
     /// The dequeue with the rank returns; where it was invoked, if it isn't placed.
-    pub fn left(&mut self, rank: usize) -> Option<usize> {
+    pub fn finish_leaving(&mut self, rank: usize) -> Option<usize> {
         self.gone = rank.saturating_add(1);
         self.leaving.retain(|other| *other != rank);
         let exit = self.exits.get(rank)?;
@@ -198,7 +198,7 @@ impl Bag {
 
     /// That of the events, if no item is taken out more often than it can be put in before.
     pub fn of(alloc: Global, events: &[Event]) -> Result<Option<Bag>, OutOfMemory> {
-        let mut operations = gathered(alloc, events)?;
+        let mut operations = gather_operations(alloc, events)?;
         operations.sort_unstable_by_key(|operation| operation.span.end);
         let mut bag = Bag::new(alloc, events.len())?;
         for operation in &operations {

@@ -1,5 +1,5 @@
 //! What the operations of a queue did, as far as its whole history tells, where each item is put in once.
-use lin_depth_first::{CallSpan, NEVER, PossibleOperation, gathered};
+use crate::operations::{CallSpan, NEVER, PossibleOperation, gather_operations};
 use lin_events::{Body, Call, Event, Item, OutOfMemory, Reply, Val};
 use std::alloc::Global;
 use std::collections::HashMap;
@@ -46,7 +46,7 @@ pub struct Queue {
 impl Queue {
     /// That of the events, if each item is put in once, and taken out only where it is put in, and once.
     pub fn of(alloc: Global, events: &[Event]) -> Result<Option<Queue>, OutOfMemory> {
-        let operations = gathered(alloc, events)?;
+        let operations = gather_operations(alloc, events)?;
         let mut queue = Queue {
             elements: Vec::new(alloc),
             vain: Vec::new(alloc),

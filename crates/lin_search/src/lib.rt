@@ -3,7 +3,7 @@
 //! Three calls ask the guides, which promise nothing, and check what these say (`witness.rt`). `finds_order` asks for an order: of
 //! registers `order_ahead` (few configurations) and `register_order` (`lin_registers`), of queues `queue_order` (the order of the elements first, each of which is put in
 //! once), of unordered queues `bag_order` (items are put in and taken out as late as their operations allow), and of all four kinds
-//! `depth_first_order` (`lin_depth_first`). `finds_conflict` asks why there is none: for operations that conflict (registers by the zones of
+//! `depth_first_order` (`depth_first.rt`). `finds_conflict` asks why there is none: for operations that conflict (registers by the zones of
 //! Gibbons and Korach 1997, Testing shared memories; unordered queues by counting), or of queues for debts that can't be paid
 //! (`lin_queues`) and items that ranks overtake (`lin_queues`). `finds_failure` asks for such an event and for an order of the events
 //! before it. Sets and locks aren't searched: they have engines.
@@ -18,10 +18,18 @@
 #![tactic(auto)]
 
 mod bags;
+mod chronology;
+mod contents;
 mod copies;
+mod depth_first;
 mod elements;
+mod links;
+mod numbers;
+mod operations;
 mod queues;
 mod ranks;
+mod sequence;
+mod sides;
 mod witness;
 
 pub use bags::bag_order;

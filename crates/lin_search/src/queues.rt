@@ -1,7 +1,7 @@
 //! A search for a legal order of a queue's operations, of items that are put in once each: the order of the elements is looked for
 //! first, and then each operation stands where it returns at the latest. Whatever it finds is checked; that it finds one isn't promised.
 use crate::elements::{Element, Queue};
-use crate::ranks::{Vacancy, ranked, vacancies};
+use crate::ranks::{Vacancy, rank_elements, vacancies};
 use lin_events::{Event, OutOfMemory, Reply, Val};
 use lin_order::Placed;
 use std::alloc::Global;
@@ -143,7 +143,7 @@ pub fn queue_order(alloc: Global, events: &[Event]) -> Result<Option<Vec<Placed>
     let Some(vacancies) = vacancies(alloc, &mut queue)? else {
         return Ok(None);
     };
-    let Some(elements) = ranked(alloc, &mut queue)? else {
+    let Some(elements) = rank_elements(alloc, &mut queue)? else {
         return Ok(None);
     };
     Ok(Some(made(alloc, &elements, &vacancies, events.len())?))

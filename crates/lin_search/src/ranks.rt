@@ -1,6 +1,6 @@
 //! A search for the order in which the elements of a queue are put in and taken out. It promises nothing.
 use crate::elements::{Element, Queue};
-use lin_depth_first::{CallSpan, NEVER};
+use crate::operations::{CallSpan, NEVER};
 use lin_events::OutOfMemory;
 use std::alloc::Global;
 
@@ -45,7 +45,7 @@ impl Sweep {
     }
 
     /// The element of the next one, if it stands before the place; the sweep goes on behind it.
-    fn passed(&mut self, at: (usize, usize)) -> Option<usize> {
+    fn pass_next(&mut self, at: (usize, usize)) -> Option<usize> {
         let stop = self.first()?;
         if stop.at >= at {
             return None;
@@ -111,8 +111,8 @@ pub fn vacancies(alloc: Global, queue: &mut Queue) -> Result<Option<Vec<Vacancy>
         place = vain.begin.max(place);
         for _ in 0..queue.elements.len().saturating_mul(2) {
             let Some(element) = enqueues
-                .passed((0, place))
-                .or_else(|| dequeues.passed((0, place)))
+                .pass_next((0, place))
+                .or_else(|| dequeues.pass_next((0, place)))
             else {
                 break;
             };
@@ -182,7 +182,7 @@ impl Ranking {
         };
         let until = (first.at.0, first.at.1.saturating_add(1));
         for _ in 0..elements.len() {
-            let Some(element) = self.calls.passed(until) else {
+            let Some(element) = self.calls.pass_next(until) else {
                 break;
             };
             self.window.push(element)?;
@@ -236,7 +236,10 @@ impl Ranking {
 }
 
 /// The elements in the order in which the queue holds them, if one is found.
-pub fn ranked(alloc: Global, queue: &mut Queue) -> Result<Option<Vec<Element>>, OutOfMemory> {
+pub fn rank_elements(
+    alloc: Global,
+    queue: &mut Queue,
+) -> Result<Option<Vec<Element>>, OutOfMemory> {
     let mut ranking = Ranking::of(alloc, &queue.elements)?;
     let mut ranked = Vec::new(alloc);
     for _ in 0..queue.elements.len().saturating_mul(2) {

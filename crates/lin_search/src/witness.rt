@@ -13,9 +13,9 @@ ghost use Rattle.lin_order.specs.Linearizable.{IsDeadAt, IsLegalOrder, IsLegalOr
 ghost use Rattle.lin_order.specs.Parts.{events_at};
 
 use crate::bags::bag_order;
+use crate::depth_first::{depth_first_order, tick_tries};
 use crate::queues::queue_order;
 use lin_certificates::{Certificate, bag_failure, certificates_exclude_orders, certifies};
-use lin_depth_first::depth_first_order;
 use lin_events::{Event, Item, Meter, OutOfMemory, beginnings_are_well_formed};
 use lin_objects::{Kind, Kinds};
 use lin_order::{Placed, check_order};
@@ -49,18 +49,6 @@ fn tick_steps(meter: &mut Meter, count: usize)
     prove!(before <= meter.steps());
 }
 
-/// So many calls more were tried.
-fn tick_tries(meter: &mut Meter, count: usize)
-    ensures counted { meter.new ≡ record meter.old { tries = ticked meter.old.tries count } }
-    ensures risen { meter.old.tries ≤ meter.new.tries }
-{
-    let before = meter.tries();
-    for _ in 0..count {
-        meter.tick_try();
-    }
-    prove!(before <= meter.tries());
-}
-
 /// Puts the event at the place last, if there is one.
 fn append_at(
     alloc: Global,
@@ -77,7 +65,7 @@ fn append_at(
 }
 
 /// The events at the places, on their own memory, for a search to go through. A step is counted for each.
-fn picked(
+fn pick_events(
     alloc: Global,
     events: &[Event],
     picks: &[usize],
@@ -145,7 +133,7 @@ fn deep_order(
 }
 
 /// The same of the guide.
-fn attempted(
+fn ask_guide(
     alloc: Global,
     kind: Kind,
     guide: Guide,
@@ -214,7 +202,7 @@ fn is_legal_order(
 
 /// A legal order of the events of an object of the kind, which all are of one key, if a search finds one. Of the steps those of the check
 /// are counted, if there is one.
-fn shown(
+fn show_order(
     alloc: Global,
     kind: Kind,
     guide: Guide,
@@ -232,7 +220,7 @@ fn shown(
     if !are_of(events, key) {
         return Ok(None);
     }
-    let Some(order) = attempted(alloc, kind, guide, events, meter)? else {
+    let Some(order) = ask_guide(alloc, kind, guide, events, meter)? else {
         return Ok(None);
     };
     let is_legal = is_legal_order(alloc, kind, events, &order, meter)?;
@@ -243,7 +231,7 @@ fn shown(
 }
 
 /// The same of the events at the places, with all steps counted.
-fn shown_of(
+fn show_order_of(
     alloc: Global,
     kind: Kind,
     guide: Guide,
@@ -259,10 +247,10 @@ fn shown_of(
     ensures scans { meter.new.scans ≡ meter.old.scans }
 {
     if are_all(events, picks) {
-        return shown_whole(alloc, kind, guide, events, picks, meter);
+        return show_order_of_all(alloc, kind, guide, events, picks, meter);
     }
-    let own = picked(alloc, events, picks, meter)?;
-    shown(alloc, kind, guide, own.as_slice(), meter)
+    let own = pick_events(alloc, events, picks, meter)?;
+    show_order(alloc, kind, guide, own.as_slice(), meter)
 }
 
 /// Whether the places are those of all events, one after the other.
@@ -281,7 +269,7 @@ fn are_all(events: &[Event], picks: &[usize]) -> bool
 }
 
 /// The same where the places are those of all events: these needn't be copied.
-fn shown_whole(
+fn show_order_of_all(
     alloc: Global,
     kind: Kind,
     guide: Guide,
@@ -298,7 +286,7 @@ fn shown_whole(
     ensures scans { meter.new.scans ≡ meter.old.scans }
 {
     tick_steps(meter, picks.len());
-    shown(alloc, kind, guide, events, meter)
+    show_order(alloc, kind, guide, events, meter)
 }
 
 /// A legal order of the events at the places, which all are of one key, if one is found. Of events of several keys none is.
@@ -328,7 +316,7 @@ pub fn finds_order(
 {
     match kind {
         Kind::Register | Kind::CasRegister | Kind::Fifo | Kind::Bag => {
-            shown_of(alloc, kind, guide, events, picks, meter)
+            show_order_of(alloc, kind, guide, events, picks, meter)
         }
         Kind::Set | Kind::Mutex => Ok(None),
     }
@@ -377,7 +365,7 @@ fn conflicting(
 }
 
 /// One of the first so many events up to which a queue's debts can't be paid, if they come to that.
-fn indebted(alloc: Global, events: &[Event], until: usize) -> Result<Option<usize>, OutOfMemory>
+fn find_debt(alloc: Global, events: &[Event], until: usize) -> Result<Option<usize>, OutOfMemory>
     requires { until ≤ length events.now }
     ensures inside { IfOk result (λ found. IfSome found (λ at. at < until)) }
     ensures refuted { (functions : ItemOf → NameOf → Bool) → IsWellFormed functions events.now → IfOk result (λ found. IfSome found (λ at. IsLinearizableAs Fifo (take (at + 1) events.now) → ⊥)) }
@@ -397,16 +385,20 @@ fn queue_failure(alloc: Global, events: &[Event]) -> Result<Option<usize>, OutOf
 {
     overtaken_ranks_are_illegal();
     let Some(last) = rank_failure(alloc, events)? else {
-        return indebted(alloc, events, events.len());
+        return find_debt(alloc, events, events.len());
     };
-    match indebted(alloc, events, last)? {
+    match find_debt(alloc, events, last)? {
         Some(at) => Ok(Some(at)),
         None => Ok(Some(last)),
     }
 }
 
 /// The same. A step is counted for each event up to and with that one, or for all events, if there is none.
-fn queued(alloc: Global, events: &[Event], meter: &mut Meter) -> Result<Option<usize>, OutOfMemory>
+fn find_queue_failure(
+    alloc: Global,
+    events: &[Event],
+    meter: &mut Meter,
+) -> Result<Option<usize>, OutOfMemory>
     ensures inside { IfOk result (λ found. IfSome found (λ at. at < length events.now)) }
     ensures refuted { (functions : ItemOf → NameOf → Bool) → IsWellFormed functions events.now → IfOk result (λ found. IfSome found (λ at. IsLinearizableAs Fifo (take (at + 1) events.now) → ⊥)) }
     ensures counted { IfOk result (λ found. IfSome found (λ at. meter.new.steps ≡ ticked meter.old.steps (at + 1))) }
@@ -424,7 +416,7 @@ fn queued(alloc: Global, events: &[Event], meter: &mut Meter) -> Result<Option<u
 }
 
 /// The event up to which an object of the kind has no legal order, if one is found.
-fn refuted(
+fn find_refuted(
     alloc: Global,
     kind: Kind,
     events: &[Event],
@@ -438,7 +430,7 @@ fn refuted(
     ensures scans { meter.new.scans ≡ meter.old.scans }
 {
     match kind {
-        Kind::Fifo => queued(alloc, events, meter),
+        Kind::Fifo => find_queue_failure(alloc, events, meter),
         _ => conflicting(alloc, kind, events, meter),
     }
 }
@@ -459,12 +451,12 @@ pub fn finds_conflict(
     ensures steps { meter.new.steps ≤ meter.old.steps + 2 * length picks.now }
     ensures scans { meter.new.scans ≡ meter.old.scans }
 {
-    let own = picked(alloc, events, picks, meter)?;
-    refuted(alloc, kind, own.as_slice(), meter)
+    let own = pick_events(alloc, events, picks, meter)?;
+    find_refuted(alloc, kind, own.as_slice(), meter)
 }
 
 /// The event at which an object of the kind fails, if one is found up to which it has no legal order, and a legal order of the events before it.
-fn failing(
+fn find_failing(
     alloc: Global,
     kind: Kind,
     events: &[Event],
@@ -476,18 +468,18 @@ fn failing(
     ensures most { meter.new.steps ≤ meter.old.steps + 3 * length events.now }
     ensures scans { meter.new.scans ≡ meter.old.scans }
 {
-    let Some(at) = refuted(alloc, kind, events, meter)? else {
+    let Some(at) = find_refuted(alloc, kind, events, meter)? else {
         return Ok(None);
     };
     tick_steps(meter, at);
-    let Some(_) = shown(alloc, kind, Guide::Any, &events[..at], meter)? else {
+    let Some(_) = show_order(alloc, kind, Guide::Any, &events[..at], meter)? else {
         return Ok(None);
     };
     Ok(Some(at))
 }
 
 /// The same of the events at the places, with all steps counted.
-fn failing_of(
+fn find_failing_of(
     alloc: Global,
     kind: Kind,
     events: &[Event],
@@ -500,8 +492,8 @@ fn failing_of(
     ensures steps { meter.new.steps ≤ meter.old.steps + 4 * length picks.now }
     ensures scans { meter.new.scans ≡ meter.old.scans }
 {
-    let own = picked(alloc, events, picks, meter)?;
-    failing(alloc, kind, own.as_slice(), meter)
+    let own = pick_events(alloc, events, picks, meter)?;
+    find_failing(alloc, kind, own.as_slice(), meter)
 }
 
 /// Which of the events at the places is the one at which the shortest beginning without a legal order ends, if one is found. It is right of well-formed
@@ -528,7 +520,7 @@ pub fn finds_failure(
 {
     match kind {
         Kind::Register | Kind::CasRegister | Kind::Fifo | Kind::Bag => {
-            failing_of(alloc, kind, events, picks, meter)
+            find_failing_of(alloc, kind, events, picks, meter)
         }
         Kind::Set | Kind::Mutex => Ok(None),
     }

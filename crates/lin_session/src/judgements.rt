@@ -124,7 +124,7 @@ impl Objects {
         match self.find(key) {
             Some(i) => {
                 let (failing, over) = self.judge_listed(i, events, budget, meter)?;
-                Ok(told(failing, over))
+                Ok(verdict_of_findings(failing, over))
             }
             None => Ok(Verdict::Yes),
         }
@@ -159,7 +159,7 @@ impl Objects {
         beginnings_are_well_formed();
         linearizability_is_local();
         let (failing, over) = self.judge_all(events, budget, meter)?;
-        Ok(told(failing, over))
+        Ok(verdict_of_findings(failing, over))
     }
 
     /// What is found of all objects: the shortest prefix that fails one, and the first position at which one is over.
@@ -236,7 +236,7 @@ impl Objects {
 }
 
 /// The verdict that the findings give: the failing prefix, unless an object is over at an earlier position.
-pub(crate) fn told(failing: Option<usize>, over: Option<usize>) -> Verdict
+pub(crate) fn verdict_of_findings(failing: Option<usize>, over: Option<usize>) -> Verdict
     ensures { IsTold failing over result }
 {
     match failing {

@@ -62,7 +62,7 @@ impl Objects {
     }
 
     /// Forgets where the events from the position on stand.
-    fn unsplit(&mut self, events: &[Event], at: usize)
+    fn forget_split(&mut self, events: &[Event], at: usize)
         requires { split_in self.old ≤ length events.now }
         ensures split { split_in self.new ≡ min at (split_in self.old) }
         ensures right { (kinds : ItemOf → KindOf) (budget : ℕ) → AreRight self.old kinds budget events.now → AreRight self.new kinds budget events.now }
@@ -96,7 +96,7 @@ impl Objects {
         ensures marks { (kinds : ItemOf → KindOf) (budget : ℕ) → AreRight self.old kinds budget events.now
             → (x : ItemOf) → IsTouched (is_of_key events.now x at) (count_before events.now x at) (marks_in self.old x) (marks_in self.new x) }
     {
-        self.unsplit(events, at);
+        self.forget_split(events, at);
         self.take_out(events[at].key, &events[at + 1..]);
     }
 

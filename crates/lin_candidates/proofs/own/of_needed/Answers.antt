@@ -21,13 +21,13 @@ returns-in_err-value-clause-overwritten c =
 
 pub returns-clause-unwritten : goal.returns-clause-unwritten
 returns-clause-unwritten c =
-    let not = none_is c.tested-found.result c.if-is_some.ensures c.tested-found.ensures.all in
+    let not = none_is c.certificate_that_holds-found.result c.if-is_some.ensures c.certificate_that_holds-found.ensures.all in
     let all : (item : Item) → Certifies c.args.events.now c.args.kind (Form.Unwritten c.args.at item) → ⊥ =
     λ item is.
     subst (λ r. IfSome r (λ certificate. Certifies c.args.events.now c.args.kind certificate → ⊥))
-    (c.unwritten.ensures item (c.in_ok-value.ensures (Held item) (unwritten_needed c.args.events.now c.args.at c.args.kind item is))) not is in
-    none_always c.tested.result all
+    (c.unwritten_certificate.ensures item (c.in_ok-value.ensures (Held item) (unwritten_needed c.args.events.now c.args.at c.args.kind item is))) not is in
+    none_always c.certificate_that_holds.result all
 
 pub returns-clause-overwritten : goal.returns-clause-overwritten
-returns-clause-overwritten c = none_on c.tested.result (λ not v is.
-    not (subst (λ w. Certifies c.args.events.now c.args.kind (Form.Overwritten c.args.at w)) (sym (c.in_ok-value.ensures v (overwritten_needed c.args.events.now c.args.at c.args.kind v is))) is)) c.tested.ensures.all
+returns-clause-overwritten c = none_on c.certificate_that_holds.result (λ not v is.
+    not (subst (λ w. Certifies c.args.events.now c.args.kind (Form.Overwritten c.args.at w)) (sym (c.in_ok-value.ensures v (overwritten_needed c.args.events.now c.args.at c.args.kind v is))) is)) c.certificate_that_holds.ensures.all

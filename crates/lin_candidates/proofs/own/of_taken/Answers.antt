@@ -11,5 +11,5 @@ returns-in_err-item-clause-all c =
     none_always c.from_residual.result all
 
 pub returns-clause-all : goal.returns-clause-all
-returns-clause-all c = none_on c.tested.result (λ not n took is.
-    not (subst (λ k. Certifies c.args.events.now c.args.kind (Form.Taken k)) (sym (c.in_ok-item.ensures n took)) is)) c.tested.ensures.all
+returns-clause-all c = none_on c.certificate_that_holds.result (λ not n took is.
+    not (subst (λ k. Certifies c.args.events.now c.args.kind (Form.Taken k)) (sym (c.in_ok-item.ensures n took)) is)) c.certificate_that_holds.ensures.all

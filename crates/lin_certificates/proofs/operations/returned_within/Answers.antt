@@ -6,7 +6,7 @@ use Rattle.lin_certificates.proofs.operations.returned_within.Goals as goal
 
 pub returns : goal.returns
 returns c =
-    made _ (both _ _ (both _ _ c.returned-made.ensures (neither _ (Decides-ltb c.args.at c.args.places.0))) c.is_before-before.ensures)
+    made _ (both _ _ (both _ _ c.is_answered_so-made.ensures (neither _ (Decides-ltb c.args.at c.args.places.0))) c.is_before-before.ensures)
     (λ is. (
       is.0.0,
       elim (cases_lt c.args.at c.args.places.0) [

@@ -12,7 +12,7 @@ returns c =
     let comes = c.count_of-comes.result in
     let goes = c.count_of-goes.result in
     let fewer_is = c.saturating_sub.ensures in
-    let begins = c.begun.ensures in
+    let begins = c.times_at_beginning.ensures in
     made _ (Decides-ltb comes c.saturating_sub.result)
     (λ less. record { comes = comes; goes = goes; all_come = c.count_of-comes.ensures; all_go = c.count_of-goes.ensures; fewer = omega (arith, less, fewer_is, begins) })
     (λ is.

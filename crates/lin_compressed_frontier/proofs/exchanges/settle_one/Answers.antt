@@ -7,6 +7,6 @@ use Rattle.lin_compressed_frontier.proofs.exchanges.settle_one.Goals as goal
 pub returns-in-Some : goal.returns-in-Some
 returns-in-Some c =
     let a = c.in-Some.ensures in
-    IfOk-weaker c.renamed.result _ _ (λ out is first before.
+    IfOk-weaker c.rename_process.result _ _ (λ out is first before.
     subst (IsRenamed c.args.pending.now first) (sym (is ∙ ap (λ l. map (renamed_pair c.args.operation.now.process c.in-Some.other.now.process) l) c.as_slice-in-Some.ensures))
-    (more before c.requires a.0 a.1 a.2 a.3 (subst (λ l. IsAbsent c.in-Some.other.now.process l) c.as_slice.ensures a.4))) c.renamed.ensures
+    (more before c.requires a.0 a.1 a.2 a.3 (subst (λ l. IsAbsent c.in-Some.other.now.process l) c.as_slice.ensures a.4))) c.rename_process.ensures

@@ -9,14 +9,14 @@ use Rattle.lin_search.proofs.witness.finds_conflict.Goals as goal
 
 pub returns-clause-counted : goal.returns-clause-counted
 returns-clause-counted c =
-    IfOk-weaker c.refuted.result _ _
-    (λ found checked. IfSome_then found checked (λ at counted. then_ticked c.args.meter.now.steps (length c.args.picks.now) (at + 1) c.picked.new.meter.steps c.refuted.new.meter.steps c.in_ok-own.ensures.counted counted))
-    c.refuted.ensures.counted
+    IfOk-weaker c.find_refuted.result _ _
+    (λ found checked. IfSome_then found checked (λ at counted. then_ticked c.args.meter.now.steps (length c.args.picks.now) (at + 1) c.pick_events.new.meter.steps c.find_refuted.new.meter.steps c.in_ok-own.ensures.counted counted))
+    c.find_refuted.ensures.counted
 
 pub returns-clause-steps : goal.returns-clause-steps
 returns-clause-steps c =
-    let first : c.picked.new.meter.steps ≤ c.args.meter.now.steps + length c.args.picks.now = c.picked.ensures.steps in
-    let more : c.refuted.new.meter.steps ≤ c.picked.new.meter.steps + length c.as_slice.result.now = c.refuted.ensures.most in
+    let first : c.pick_events.new.meter.steps ≤ c.args.meter.now.steps + length c.args.picks.now = c.pick_events.ensures.steps in
+    let more : c.find_refuted.new.meter.steps ≤ c.pick_events.new.meter.steps + length c.as_slice.result.now = c.find_refuted.ensures.most in
     let same : length c.as_slice.result.now ≡ length (events_at c.args.events.now c.args.picks.now) = ap length (c.as_slice.ensures.value ∙ c.in_ok-own.ensures.own) in
     let few = events_most c.args.events.now c.args.picks.now in
     omega arith
@@ -24,4 +24,4 @@ returns-clause-steps c =
 pub returns-clause-refuted : goal.returns-clause-refuted
 returns-clause-refuted c functions formed =
     let same : c.as_slice.result.now ≡ events_at c.args.events.now c.args.picks.now = c.as_slice.ensures.value ∙ c.in_ok-own.ensures.own in
-    rw same at (c.refuted.ensures.refuted functions (subst (λ (h : List Event). IsWellFormed functions h) (sym same) formed))
+    rw same at (c.find_refuted.ensures.refuted functions (subst (λ (h : List Event). IsWellFormed functions h) (sym same) formed))

@@ -9,7 +9,7 @@ use Rattle.lin_compressed_frontier.proofs.completions.Completion.search.Goals as
 pub loop-start-init : goal.loop-start-init
 loop-start-init g c = record {
   within = omega arith;
-  working = working_alone _ _ _ _ _ _ _ c.visited-visited.result.items c.args.found.items c.visited-visited.ensures c.requires.empty;
+  working = working_alone _ _ _ _ _ _ _ c.visited_list-visited.result.items c.args.found.items c.visited_list-visited.ensures c.requires.empty;
   tried = tried_none _ _;
 }
 

@@ -13,7 +13,7 @@ pub returns-then-is_empty-clause-empty : goal.returns-then-is_empty-clause-empty
 returns-then-is_empty-clause-empty g c is functions h next frontier =
     let known = subst (λ l. IsCovering (g.O.SeqObject.starts c.args.arrival.now.object.now) (g.O.SeqObject.step c.args.arrival.now.object.now) (g.O.SeqObject.observing c.args.arrival.now.object.now) (g.O.SeqObject.overwriting c.args.arrival.now.object.now) h l c.args.nodes.now)
     (sym (c.deref.ensures.value ∙ c.self.view_is)) frontier.covering in
-    none_left (g.O.SeqObject.starts c.args.arrival.now.object.now) (g.O.SeqObject.step c.args.arrival.now.object.now) (g.O.SeqObject.observing c.args.arrival.now.object.now) (g.O.SeqObject.overwriting c.args.arrival.now.object.now) functions (with_event h c.args.arrival.now.event.now) c.advanced.new.nodes c.in-Ok-Some.members.items
+    none_left (g.O.SeqObject.starts c.args.arrival.now.object.now) (g.O.SeqObject.step c.args.arrival.now.object.now) (g.O.SeqObject.observing c.args.arrival.now.object.now) (g.O.SeqObject.overwriting c.args.arrival.now.object.now) functions (with_event h c.args.arrival.now.event.now) c.advance_members.new.nodes c.in-Ok-Some.members.items
     c.members_are_exact.ensures.exact c.legal_orders_end.ensures next.well_formed (sym c.in-Ok-Some.members.ok.0 ∙ eqb-true _ _ (sym c.is_empty.ensures ∙ c.if-is_empty.true))
     (from_some _ c.in-Ok-Some.field-0-is c.in-Ok-Some.ensures.next functions h next known)
 
@@ -22,56 +22,56 @@ returns-else-is_empty-clause-next g c next is functions h nx frontier =
     let known = subst (λ l. IsCovering (g.O.SeqObject.starts c.args.arrival.now.object.now) (g.O.SeqObject.step c.args.arrival.now.object.now) (g.O.SeqObject.observing c.args.arrival.now.object.now) (g.O.SeqObject.overwriting c.args.arrival.now.object.now) h l c.args.nodes.now)
     (sym (c.deref.ensures.value ∙ c.self.view_is)) frontier.covering in
     let same : c.in-Ok-Some.members.items ≡ next = cc in
-    subst (λ l. IsCompressed (g.O.SeqObject.starts c.args.arrival.now.object.now) (g.O.SeqObject.step c.args.arrival.now.object.now) (g.O.SeqObject.observing c.args.arrival.now.object.now) (g.O.SeqObject.overwriting c.args.arrival.now.object.now) (with_event h c.args.arrival.now.event.now) l c.advanced.new.nodes) same
+    subst (λ l. IsCompressed (g.O.SeqObject.starts c.args.arrival.now.object.now) (g.O.SeqObject.step c.args.arrival.now.object.now) (g.O.SeqObject.observing c.args.arrival.now.object.now) (g.O.SeqObject.overwriting c.args.arrival.now.object.now) (with_event h c.args.arrival.now.event.now) l c.advance_members.new.nodes) same
     (from_some _ c.in-Ok-Some.field-0-is c.in-Ok-Some.ensures.next functions h nx known)
 
 pub returns-then-is_empty-clause-grown : goal.returns-then-is_empty-clause-grown
-returns-then-is_empty-clause-grown g c = cut_grown c.args.nodes.now c.advanced.new.nodes c.cut.new.self c.len-count.result c.cut.ensures c.len-count.ensures c.advanced.ensures.grown
+returns-then-is_empty-clause-grown g c = cut_grown c.args.nodes.now c.advance_members.new.nodes c.cut.new.self c.len-count.result c.cut.ensures c.len-count.ensures c.advance_members.ensures.grown
 
 pub returns-in-Ok-None-clause-grown : goal.returns-in-Ok-None-clause-grown
-returns-in-Ok-None-clause-grown g c = cut_grown c.args.nodes.now c.advanced.new.nodes c.cut-in-Ok-None.new.self c.len-count.result c.cut-in-Ok-None.ensures c.len-count.ensures c.advanced.ensures.grown
+returns-in-Ok-None-clause-grown g c = cut_grown c.args.nodes.now c.advance_members.new.nodes c.cut-in-Ok-None.new.self c.len-count.result c.cut-in-Ok-None.ensures c.len-count.ensures c.advance_members.ensures.grown
 
 pub returns-in-Err-clause-grown : goal.returns-in-Err-clause-grown
-returns-in-Err-clause-grown g c = cut_grown c.args.nodes.now c.advanced.new.nodes c.cut-in-Err.new.self c.len-count.result c.cut-in-Err.ensures c.len-count.ensures c.advanced.ensures.grown
+returns-in-Err-clause-grown g c = cut_grown c.args.nodes.now c.advance_members.new.nodes c.cut-in-Err.new.self c.len-count.result c.cut-in-Err.ensures c.len-count.ensures c.advance_members.ensures.grown
 
-pub advanced-requires-clause-fits : goal.advanced-requires-clause-fits
-advanced-requires-clause-fits g c alone overwriting m there = c.requires.fits alone overwriting m (subst (λ l. Contains l m) (c.deref.ensures.value ∙ c.self.view_is) there)
+pub advance_members-requires-clause-fits : goal.advance_members-requires-clause-fits
+advance_members-requires-clause-fits g c alone overwriting m there = c.requires.fits alone overwriting m (subst (λ l. Contains l m) (c.deref.ensures.value ∙ c.self.view_is) there)
 
 pub returns-then-is_empty-clause-tries : goal.returns-then-is_empty-clause-tries
 returns-then-is_empty-clause-tries g c =
     let len = length c.args.arrival.now.pending.now in
-    tried_since c.args.meter.now c.tick_step.new.self c.advanced.new.meter (c.args.search.limit * (2 * len + 3)) (length c.deref.result.now) (length c.args.self.now) (2 * ((len + 2) * (len + 2))) (ap (λ (m : Meter). m.tries) c.tick_step.ensures)
-    (ap length (c.deref.ensures.value ∙ c.self.view_is)) c.advanced.ensures.tried
+    tried_since c.args.meter.now c.tick_step.new.self c.advance_members.new.meter (c.args.search.limit * (2 * len + 3)) (length c.deref.result.now) (length c.args.self.now) (2 * ((len + 2) * (len + 2))) (ap (λ (m : Meter). m.tries) c.tick_step.ensures)
+    (ap length (c.deref.ensures.value ∙ c.self.view_is)) c.advance_members.ensures.tried
 
 pub returns-else-is_empty-clause-tries : goal.returns-else-is_empty-clause-tries
 returns-else-is_empty-clause-tries g c =
     let len = length c.args.arrival.now.pending.now in
-    tried_since c.args.meter.now c.tick_step.new.self c.advanced.new.meter (c.args.search.limit * (2 * len + 3)) (length c.deref.result.now) (length c.args.self.now) (2 * ((len + 2) * (len + 2))) (ap (λ (m : Meter). m.tries) c.tick_step.ensures)
-    (ap length (c.deref.ensures.value ∙ c.self.view_is)) c.advanced.ensures.tried
+    tried_since c.args.meter.now c.tick_step.new.self c.advance_members.new.meter (c.args.search.limit * (2 * len + 3)) (length c.deref.result.now) (length c.args.self.now) (2 * ((len + 2) * (len + 2))) (ap (λ (m : Meter). m.tries) c.tick_step.ensures)
+    (ap length (c.deref.ensures.value ∙ c.self.view_is)) c.advance_members.ensures.tried
 
 pub returns-in-Ok-None-clause-tries : goal.returns-in-Ok-None-clause-tries
 returns-in-Ok-None-clause-tries g c =
     let len = length c.args.arrival.now.pending.now in
-    tried_since c.args.meter.now c.tick_step.new.self c.advanced.new.meter (c.args.search.limit * (2 * len + 3)) (length c.deref.result.now) (length c.args.self.now) (2 * ((len + 2) * (len + 2))) (ap (λ (m : Meter). m.tries) c.tick_step.ensures)
-    (ap length (c.deref.ensures.value ∙ c.self.view_is)) c.advanced.ensures.tried
+    tried_since c.args.meter.now c.tick_step.new.self c.advance_members.new.meter (c.args.search.limit * (2 * len + 3)) (length c.deref.result.now) (length c.args.self.now) (2 * ((len + 2) * (len + 2))) (ap (λ (m : Meter). m.tries) c.tick_step.ensures)
+    (ap length (c.deref.ensures.value ∙ c.self.view_is)) c.advance_members.ensures.tried
 
 pub returns-in-Err-clause-tries : goal.returns-in-Err-clause-tries
 returns-in-Err-clause-tries g c =
     let len = length c.args.arrival.now.pending.now in
-    tried_since c.args.meter.now c.tick_step.new.self c.advanced.new.meter (c.args.search.limit * (2 * len + 3)) (length c.deref.result.now) (length c.args.self.now) (2 * ((len + 2) * (len + 2))) (ap (λ (m : Meter). m.tries) c.tick_step.ensures)
-    (ap length (c.deref.ensures.value ∙ c.self.view_is)) c.advanced.ensures.tried
+    tried_since c.args.meter.now c.tick_step.new.self c.advance_members.new.meter (c.args.search.limit * (2 * len + 3)) (length c.deref.result.now) (length c.args.self.now) (2 * ((len + 2) * (len + 2))) (ap (λ (m : Meter). m.tries) c.tick_step.ensures)
+    (ap length (c.deref.ensures.value ∙ c.self.view_is)) c.advance_members.ensures.tried
 
 pub returns-then-is_empty-clause-kept : goal.returns-then-is_empty-clause-kept
-returns-then-is_empty-clause-kept g c _ = cut_same c.args.nodes.now c.advanced.new.nodes c.cut.new.self c.len-count.result c.cut.ensures c.len-count.ensures c.advanced.ensures.grown
+returns-then-is_empty-clause-kept g c _ = cut_same c.args.nodes.now c.advance_members.new.nodes c.cut.new.self c.len-count.result c.cut.ensures c.len-count.ensures c.advance_members.ensures.grown
 
 pub returns-in-Ok-None-clause-kept : goal.returns-in-Ok-None-clause-kept
-returns-in-Ok-None-clause-kept g c _ = cut_same c.args.nodes.now c.advanced.new.nodes c.cut-in-Ok-None.new.self c.len-count.result c.cut-in-Ok-None.ensures c.len-count.ensures c.advanced.ensures.grown
+returns-in-Ok-None-clause-kept g c _ = cut_same c.args.nodes.now c.advance_members.new.nodes c.cut-in-Ok-None.new.self c.len-count.result c.cut-in-Ok-None.ensures c.len-count.ensures c.advance_members.ensures.grown
 
 pub returns-in-Err-clause-refused : goal.returns-in-Err-clause-refused
-returns-in-Err-clause-refused g c = cut_same c.args.nodes.now c.advanced.new.nodes c.cut-in-Err.new.self c.len-count.result c.cut-in-Err.ensures c.len-count.ensures c.advanced.ensures.grown
+returns-in-Err-clause-refused g c = cut_same c.args.nodes.now c.advance_members.new.nodes c.cut-in-Err.new.self c.len-count.result c.cut-in-Err.ensures c.len-count.ensures c.advance_members.ensures.grown
 
-pub advanced-requires-clause-goes : goal.advanced-requires-clause-goes
-advanced-requires-clause-goes g c = grind (arith, common_steps)
+pub advance_members-requires-clause-goes : goal.advance_members-requires-clause-goes
+advance_members-requires-clause-goes g c = grind (arith, common_steps)
 
 pub returns-else-is_empty-clause-empty : goal.returns-else-is_empty-clause-empty
 returns-else-is_empty-clause-empty g c = grind (arith, common_steps)

@@ -36,12 +36,12 @@ returns-in-None-clause-carried c = AreCarriedOn-same c.args.events.now _ (marks_
 pub returns-in_ok-failing-in-Some-clause-verdict : goal.returns-in_ok-failing-in-Some-clause-verdict
 returns-in_ok-failing-in-Some-clause-verdict c = λ kinds kept fine.
     let key_at = c.in-Some.ensures.found in
-    verdict_told kinds c.args.budget c.args.events.now c.args.key c.in_ok-failing-in-Some.failing c.in_ok-failing-in-Some.over c.told.result
-    (c.in_ok-failing-in-Some.ensures.found kinds c.args.key key_at kept fine) c.told.ensures
+    verdict_told kinds c.args.budget c.args.events.now c.args.key c.in_ok-failing-in-Some.failing c.in_ok-failing-in-Some.over c.verdict_of_findings.result
+    (c.in_ok-failing-in-Some.ensures.found kinds c.args.key key_at kept fine) c.verdict_of_findings.ensures
 
 pub returns-in_ok-failing-in-Some-clause-told : goal.returns-in_ok-failing-in-Some-clause-told
 returns-in_ok-failing-in-Some-clause-told c =
-    marked_as c.args.events.now (marks_in c.judge_listed.new.self) c.args.key c.in_ok-failing-in-Some.failing c.in_ok-failing-in-Some.over c.told.result (c.in_ok-failing-in-Some.ensures.told c.args.key c.in-Some.ensures.found) c.told.ensures
+    marked_as c.args.events.now (marks_in c.judge_listed.new.self) c.args.key c.in_ok-failing-in-Some.failing c.in_ok-failing-in-Some.over c.verdict_of_findings.result (c.in_ok-failing-in-Some.ensures.told c.args.key c.in-Some.ensures.found) c.verdict_of_findings.ensures
 
 pub returns-in_ok-failing-in-Some-clause-known : goal.returns-in_ok-failing-in-Some-clause-known
 returns-in_ok-failing-in-Some-clause-known c = λ key asked.
@@ -76,8 +76,8 @@ returns-in_err-failing-in-Some-clause-rests c = λ nothing.
 pub returns-in_ok-failing-in-Some-clause-decided : goal.returns-in_ok-failing-in-Some-clause-decided
 returns-in_ok-failing-in-Some-clause-decided c = λ kinds kept exact many at is_over.
     let key_at = c.in-Some.ensures.found in
-    let told : c.told.result ≡ Undecided at = cc is_over in
-    let over = told_undecided c.in_ok-failing-in-Some.failing c.in_ok-failing-in-Some.over c.told.result at c.told.ensures told in
+    let told : c.verdict_of_findings.result ≡ Undecided at = cc is_over in
+    let over = told_undecided c.in_ok-failing-in-Some.failing c.in_ok-failing-in-Some.over c.verdict_of_findings.result at c.verdict_of_findings.ensures told in
     let asked = over_asked c.args.events.now (marks_in c.judge_listed.new.self) c.args.key c.in_ok-failing-in-Some.failing c.in_ok-failing-in-Some.over at over (c.in_ok-failing-in-Some.ensures.told c.args.key key_at) in
     none-some at (sym (c.in_ok-failing-in-Some.ensures.decided kinds c.args.key key_at kept (exact c.args.key (refl, asked)) many) ∙ over)
 
